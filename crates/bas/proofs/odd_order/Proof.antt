@@ -1,0 +1,66 @@
+-- `bas::odd_order` meets its contract: both sides are the same sum of bits.
+use native.Mathlib.Omega.{arith}
+use Rattle.bits.specs.Bits.{lowBits, number}
+use Rattle.bits.proofs.BitLaws.{digit-odd}
+use Rattle.bas.specs.Words.{oddOrder}
+use borrow.Author.Needs.{needs}
+use Rattle.bas.proofs.odd_order.Statement.{statement}
+use Rattle.bas.proofs.odd_order.Tie as tie
+
+mul-result : tie.Need-mul-result
+mul-result c = search needs
+
+mul-result-2 : tie.Need-mul-result-2
+mul-result-2 c = search needs
+
+add-result : tie.Need-add-result
+add-result c = search needs
+
+mul-result-3 : tie.Need-mul-result-3
+mul-result-3 c = search needs
+
+add-result-2 : tie.Need-add-result-2
+add-result-2 c = search needs
+
+mul-result-4 : tie.Need-mul-result-4
+mul-result-4 c = search needs
+
+add-result-3 : tie.Need-add-result-3
+add-result-3 c = search needs
+
+mul-result-5 : tie.Need-mul-result-5
+mul-result-5 c = search needs
+
+add-result-4 : tie.Need-add-result-4
+add-result-4 c = search needs
+
+mul-result-6 : tie.Need-mul-result-6
+mul-result-6 c = search needs
+
+add-result-5 : tie.Need-add-result-5
+add-result-5 c = search needs
+
+add-result-6 : tie.Need-add-result-6
+add-result-6 c = search needs
+
+returns : tie.Need-returns
+unfolding oddOrder lowBits number
+returns c = simp digit-odd (omega arith)
+
+pub odd-order-spec : {M : Type 1} → statement M
+odd-order-spec =
+    tie.close
+    (tie.spec
+    mul-result
+    mul-result-2
+    add-result
+    mul-result-3
+    add-result-2
+    mul-result-4
+    add-result-3
+    mul-result-5
+    add-result-4
+    mul-result-6
+    add-result-5
+    add-result-6
+    returns)

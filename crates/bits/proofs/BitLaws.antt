@@ -1,0 +1,259 @@
+-- Laws of bits: of the sum without carry, and of the passage between numbers and bits, once for every width.
+use mathlib.Core.Path.{_≡_, refl, sym, ap, ap₂, _∙_}
+use mathlib.Core.Bool.{Bool, true, false, xor}
+use mathlib.Core.List.{List, [], _∷_, _++_, append-assoc, append-nil}
+use Prim.Native.Nat.{ℕ, zero, suc, _+_, _*_, _/_, _%_, _^_, _<_, _≤_}
+use native.Mathlib.Nat.{suc-inj, suc-ne-zero, pow-suc, mul-assoc, add-assoc, mod-one, mod-eq-of-lt, mul-add-mod-self-right, mul-add-div-right, pow-succ', zero-div, zero-mul, add-mul, zero-add, suc-add, add-comm, add-zero}
+use native.Mathlib.Omega.{arith}
+use native.Mathlib.Numerals.{one-add}
+use lib.Dec.{eqb}
+use lib.ListN.{length, take, drop, length-append}
+use lib.Pow.{pow-pos, pow-add, mod-pow-add, high, split, shr-shr, shl-shr}
+use lib.Bits.{bitXor, xor-step, xor-shr, differ}
+use Rattle.bits.specs.Bits.{odd, lowBits, octetBits, bitsOf, digit, number, zeros, xors}
+
+-- ---- the sum of two bits
+pub xor-comm : (a b : Bool) → xor a b ≡ xor b a
+unfolding xor
+xor-comm true true = refl
+xor-comm true false = refl
+xor-comm false true = refl
+xor-comm false false = refl
+
+pub xor-assoc : (a b c : Bool) → xor (xor a b) c ≡ xor a (xor b c)
+unfolding xor
+xor-assoc true true true = refl
+xor-assoc true true false = refl
+xor-assoc true false true = refl
+xor-assoc true false false = refl
+xor-assoc false true true = refl
+xor-assoc false true false = refl
+xor-assoc false false true = refl
+xor-assoc false false false = refl
+
+pub xor-false : (a : Bool) → xor a false ≡ a
+unfolding xor
+xor-false true = refl
+xor-false false = refl
+
+pub xor-self : (a : Bool) → xor a a ≡ false
+unfolding xor
+xor-self true = refl
+xor-self false = refl
+
+-- ---- the sum of two lists of bits
+pub xors-comm : (xs ys : List Bool) → xors xs ys ≡ xors ys xs
+unfolding xors
+xors-comm [] [] = refl
+xors-comm [] (y ∷ ys) = refl
+xors-comm (x ∷ xs) [] = refl
+xors-comm (x ∷ xs) (y ∷ ys) = ap₂ _∷_ (xor-comm x y) (xors-comm xs ys)
+
+pub xors-assoc : (xs ys zs : List Bool) → xors (xors xs ys) zs ≡ xors xs (xors ys zs)
+unfolding xors
+xors-assoc [] ys zs = refl
+xors-assoc (x ∷ xs) [] zs = refl
+xors-assoc (x ∷ xs) (y ∷ ys) [] = refl
+xors-assoc (x ∷ xs) (y ∷ ys) (z ∷ zs) = ap₂ _∷_ (xor-assoc x y z) (xors-assoc xs ys zs)
+
+-- four sums, regrouped
+pub xors-medial : (a b c d : List Bool) → xors (xors a b) (xors c d) ≡ xors (xors a c) (xors b d)
+xors-medial a b c d =
+    xors-assoc a b (xors c d)
+    ∙ ap (xors a) (sym (xors-assoc b c d) ∙ ap (λ (l : List Bool). xors l d) (xors-comm b c) ∙ xors-assoc c b d)
+    ∙ sym (xors-assoc a c (xors b d))
+
+pub length-xors : (xs ys : List Bool) → length xs ≡ length ys → length (xors xs ys) ≡ length xs
+unfolding xors
+length-xors [] ys h = refl
+length-xors (x ∷ xs) [] h = absurd (suc-ne-zero _ h)
+length-xors (x ∷ xs) (y ∷ ys) h = ap suc (length-xors xs ys (suc-inj h))
+
+pub xors-zeros : (xs : List Bool) (k : ℕ) → length xs ≡ k → xors xs (zeros k) ≡ xs
+unfolding xors
+xors-zeros [] k h = refl
+xors-zeros (x ∷ xs) zero h = absurd (suc-ne-zero _ h)
+xors-zeros (x ∷ xs) (suc k) h = ap₂ _∷_ (xor-false x) (xors-zeros xs k (suc-inj h))
+
+pub xors-self : (xs : List Bool) → xors xs xs ≡ zeros (length xs)
+unfolding xors
+xors-self [] = refl
+xors-self (x ∷ xs) = ap₂ _∷_ (xor-self x) (xors-self xs)
+
+-- what is added twice is gone
+pub xors-cancel : (xs ys : List Bool) → length xs ≡ length ys → xors xs (xors xs ys) ≡ ys
+xors-cancel xs ys h =
+    sym (xors-assoc xs xs ys) ∙ ap (λ (l : List Bool). xors l ys) (xors-self xs)
+    ∙ xors-comm (zeros (length xs)) ys ∙ xors-zeros ys (length xs) (sym h)
+
+pub xors-append : (xs ys us vs : List Bool) → length xs ≡ length ys → xors (xs ++ us) (ys ++ vs) ≡ xors xs ys ++ xors us vs
+unfolding xors
+xors-append [] [] us vs h = refl
+xors-append [] (y ∷ ys) us vs h = absurd (suc-ne-zero _ (sym h))
+xors-append (x ∷ xs) [] us vs h = absurd (suc-ne-zero _ h)
+xors-append (x ∷ xs) (y ∷ ys) us vs h = ap (λ (l : List Bool). xor x y ∷ l) (xors-append xs ys us vs (suc-inj h))
+
+-- ---- numbers and bits
+pub length-lowBits : (k n : ℕ) → length (lowBits k n) ≡ k
+unfolding lowBits
+length-lowBits zero n = refl
+length-lowBits (suc k) n = ap suc (length-lowBits k n)
+
+digit-bound : (b : Bool) → digit b ≤ 1
+digit-bound true = omega arith
+digit-bound false = omega arith
+
+pub odd-digit : (b : Bool) → odd (digit b) ≡ b
+unfolding odd
+odd-digit true = refl
+odd-digit false = refl
+
+-- the bit of a remainder by 2
+bit-of : (r : ℕ) → r < 2 → digit (eqb r 1) ≡ r
+bit-of zero h = refl
+bit-of (suc zero) h = refl
+bit-of (suc (suc r)) h = absurd (omega arith)
+
+pub digit-odd : (n : ℕ) → digit (odd n) ≡ n % 2
+unfolding odd
+digit-odd n = bit-of (n % 2) (omega arith)
+
+pub number-lowBits : (k n : ℕ) → number (lowBits k n) ≡ n % 2 ^ k
+unfolding number lowBits
+number-lowBits zero n = sym (mod-one n)
+number-lowBits (suc k) n =
+    rw (length-lowBits k n, number-lowBits k n, digit-odd (n / 2 ^ k))
+    (sym (mod-pow-add n 1 k) ∙ ap (λ (j : ℕ). n % 2 ^ j) (one-add k))
+
+-- a number of k bits is what its bits spell
+pub number-fits : (k n : ℕ) → n < 2 ^ k → number (lowBits k n) ≡ n
+number-fits k n h = number-lowBits k n ∙ mod-eq-of-lt h
+
+pub number-bound : (bs : List Bool) → number bs < 2 ^ length bs
+unfolding number
+number-bound [] = omega arith
+number-bound (true ∷ bs) = omega (arith, number-bound bs, pow-suc 2 (length bs))
+number-bound (false ∷ bs) = omega (arith, number-bound bs, pow-suc 2 (length bs))
+
+odd-above : (a q : ℕ) → odd (a * 2 + q) ≡ odd q
+unfolding odd
+odd-above a q = ap (λ (r : ℕ). eqb r 1) (mul-add-mod-self-right a 2 q)
+
+-- what stands above the k low bits does not show in them
+pub lowBits-above : (k a n : ℕ) → lowBits k (a * 2 ^ k + n) ≡ lowBits k n
+unfolding lowBits
+lowBits-above zero a n = refl
+lowBits-above (suc k) a n =
+    let e : a * 2 ^ suc k + n ≡ a * 2 * 2 ^ k + n = rw (pow-succ' 2 k, mul-assoc a 2 (2 ^ k)) in
+    ap₂ _∷_ (ap (λ (m : ℕ). odd (m / 2 ^ k)) e ∙ ap odd (mul-add-div-right (pow-pos k) (a * 2) n) ∙ odd-above a (n / 2 ^ k))
+    (ap (lowBits k) e ∙ lowBits-above k (a * 2) n)
+
+pub lowBits-mod : (k n : ℕ) → lowBits k (n % 2 ^ k) ≡ lowBits k n
+lowBits-mod k n = sym (lowBits-above k (n / 2 ^ k) (n % 2 ^ k)) ∙ ap (lowBits k) (split n k)
+
+pub lowBits-zero : (k : ℕ) → lowBits k 0 ≡ zeros k
+unfolding lowBits
+lowBits-zero zero = refl
+lowBits-zero (suc k) = ap₂ _∷_ (ap odd (zero-div (2 ^ k)) ∙ odd-digit false) (lowBits-zero k)
+
+-- the j + k low bits are j bits above the k low ones
+pub lowBits-append : (j k n : ℕ) → lowBits (j + k) n ≡ lowBits j (n / 2 ^ k) ++ lowBits k n
+unfolding lowBits
+lowBits-append zero k n = rw zero-add
+lowBits-append (suc j) k n =
+    ap (λ (m : ℕ). lowBits m n) (suc-add j k)
+    ∙ ap₂ _∷_ (ap (λ (m : ℕ). odd (n / 2 ^ m)) (add-comm j k) ∙ ap odd (sym (shr-shr n k j))) (lowBits-append j k n)
+
+-- a number times 2 ^ k: its bits, and k zeros
+pub lowBits-shifted : (j k n : ℕ) → lowBits (j + k) (n * 2 ^ k) ≡ lowBits j n ++ zeros k
+lowBits-shifted j k n =
+    lowBits-append j k (n * 2 ^ k)
+    ∙ ap₂ _++_ (ap (lowBits j) (shl-shr n k)) (ap (lowBits k) (sym (add-zero (n * 2 ^ k))) ∙ lowBits-above k n 0 ∙ lowBits-zero k)
+
+-- ---- octets
+pub bitsOf-append : (s t : List ℕ) → bitsOf (s ++ t) ≡ bitsOf s ++ bitsOf t
+unfolding bitsOf
+bitsOf-append [] t = refl
+bitsOf-append (x ∷ s) t = ap (λ (l : List Bool). octetBits x ++ l) (bitsOf-append s t) ∙ sym (append-assoc (octetBits x) (bitsOf s) (bitsOf t))
+
+pub bitsOf-one : (x : ℕ) → bitsOf (x ∷ []) ≡ octetBits x
+unfolding bitsOf
+bitsOf-one x = append-nil (octetBits x)
+
+pub length-bitsOf : (s : List ℕ) → length (bitsOf s) ≡ length s * 8
+unfolding bitsOf
+length-bitsOf [] = refl
+length-bitsOf (x ∷ xs) =
+    let h : length (octetBits x) ≡ 8 = length-lowBits 8 x in
+    omega (arith, length-append (octetBits x) (bitsOf xs), length-bitsOf xs)
+
+-- bits spell a number whose bits they are
+pub lowBits-number : (bs : List Bool) → lowBits (length bs) (number bs) ≡ bs
+unfolding lowBits number
+lowBits-number [] = refl
+lowBits-number (b ∷ bs) =
+    ap₂ _∷_ (ap odd (high (digit b) (length bs) (number-bound bs)) ∙ odd-digit b)
+    (lowBits-above (length bs) (digit b) (number bs) ∙ lowBits-number bs)
+
+-- two equally long lists of bits that spell one number are equal
+pub number-inj : (xs ys : List Bool) → length xs ≡ length ys → number xs ≡ number ys → xs ≡ ys
+number-inj xs ys h e = sym (lowBits-number xs) ∙ ap₂ lowBits h e ∙ lowBits-number ys
+
+-- ---- the machine's exclusive or is the sum without carry
+differ-odd : (x y : ℕ) → x < 2 → y < 2 → odd (differ x y) ≡ xor (eqb x 1) (eqb y 1)
+unfolding odd xor
+differ-odd zero zero h k = refl
+differ-odd zero (suc zero) h k = refl
+differ-odd zero (suc (suc y)) h k = absurd (omega arith)
+differ-odd (suc zero) zero h k = refl
+differ-odd (suc zero) (suc zero) h k = refl
+differ-odd (suc zero) (suc (suc y)) h k = absurd (omega arith)
+differ-odd (suc (suc x)) y h k = absurd (omega arith)
+
+pub odd-xor : (a b : ℕ) → odd (bitXor a b) ≡ xor (odd a) (odd b)
+odd-xor a b =
+    ap odd (xor-step a b) ∙ odd-above (bitXor (a / 2) (b / 2)) (differ (a % 2) (b % 2))
+    ∙ unfold odd in differ-odd (a % 2) (b % 2) (omega arith) (omega arith)
+
+pub lowBits-xor : (k a b : ℕ) → lowBits k (bitXor a b) ≡ xors (lowBits k a) (lowBits k b)
+unfolding lowBits xors
+lowBits-xor zero a b = refl
+lowBits-xor (suc k) a b = ap₂ _∷_ (ap odd (xor-shr a b k) ∙ odd-xor (a / 2 ^ k) (b / 2 ^ k)) (lowBits-xor k a b)
+
+-- ---- more of numbers and bits
+pub lowBits-back : (k : ℕ) (bs : List Bool) → length bs ≡ k → lowBits k (number bs) ≡ bs
+lowBits-back k bs h = ap (λ (n : ℕ). lowBits n (number bs)) (sym h) ∙ lowBits-number bs
+
+pub number-append : (xs ys : List Bool) → number (xs ++ ys) ≡ number xs * 2 ^ length ys + number ys
+unfolding number
+number-append [] ys = sym (ap (λ (n : ℕ). n + number ys) (zero-mul (2 ^ length ys)) ∙ zero-add (number ys))
+number-append (x ∷ xs) ys =
+    rw (length-append xs ys, pow-add 2 (length xs) (length ys), number-append xs ys, add-mul, mul-assoc, add-assoc)
+
+-- two pairs with one sum: crosswise they have one sum too
+pub xors-swap : (x y u v : List Bool) → length x ≡ length y → length u ≡ length v → length x ≡ length u → xors x y ≡ xors u v → xors x u ≡ xors y v
+xors-swap x y u v hxy huv hxu e =
+    sym (xors-zeros (xors x u) (length v) (length-xors x u hxu ∙ hxu ∙ huv)
+    ∙ refl)
+    ∙ ap (xors (xors x u)) (sym (xors-self v))
+    ∙ sym (xors-assoc (xors x u) v v)
+    ∙ ap (λ (l : List Bool). xors l v) (xors-assoc x u v ∙ ap (xors x) (sym e) ∙ xors-cancel x y hxy)
+
+pub take-xors : (n : ℕ) (xs ys : List Bool) → take n (xors xs ys) ≡ xors (take n xs) (take n ys)
+unfolding xors
+take-xors zero xs ys = refl
+take-xors (suc n) [] ys = refl
+take-xors (suc n) (x ∷ xs) [] = refl
+take-xors (suc n) (x ∷ xs) (y ∷ ys) = ap (λ (l : List Bool). xor x y ∷ l) (take-xors n xs ys)
+
+xors-nil : (xs : List Bool) → xors xs [] ≡ []
+unfolding xors
+xors-nil [] = refl
+xors-nil (x ∷ xs) = refl
+
+pub drop-xors : (n : ℕ) (xs ys : List Bool) → drop n (xors xs ys) ≡ xors (drop n xs) (drop n ys)
+unfolding xors
+drop-xors zero xs ys = refl
+drop-xors (suc n) [] ys = refl
+drop-xors (suc n) (x ∷ xs) [] = sym (xors-nil (drop n xs))
+drop-xors (suc n) (x ∷ xs) (y ∷ ys) = drop-xors n xs ys

@@ -1,0 +1,5 @@
+pub mod BitLaws
+pub mod CrcLaws
+pub mod Every
+pub mod RemainderLaws
+pub mod Table

@@ -1,0 +1,24 @@
+-- `bits::summed_octet` meets its contract: each return follows from the tests that led there.
+use borrow.Author.Tests.{le-leb, lt-leb}
+use Rattle.bits.specs.Crc.{summed}
+use borrow.Author.Needs.{needs}
+use Rattle.bits.proofs.summed_octet.Statement.{statement}
+use Rattle.bits.proofs.summed_octet.Tie as tie
+
+mul-result : tie.Need-mul-result
+mul-result c = search needs
+
+returns : tie.Need-returns
+unfolding summed
+returns c = simp (le-leb _ _ (c .before .if1 .taken), le-leb _ _ (c .if2 .taken))
+
+returns-2 : tie.Need-returns-2
+unfolding summed
+returns-2 c = simp (le-leb _ _ (c .before .if1 .taken), lt-leb _ _ (c .if2 .left))
+
+returns-3 : tie.Need-returns-3
+unfolding summed
+returns-3 c = simp (lt-leb _ _ (c .if1 .left))
+
+pub summed-octet-spec : {M : Type 1} → statement M
+summed-octet-spec = tie.close (tie.spec mul-result returns returns-2 returns-3)

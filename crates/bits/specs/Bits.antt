@@ -1,0 +1,45 @@
+-- Document 01, 'What the unit carries': bit 1 of an octet is its most significant bit and goes first.
+-- A bit is a Bool, and bits are a list of them, first bit first. Numbers stand only at the edge.
+use mathlib.Core.Bool.{Bool, true, false, xor}
+use mathlib.Core.List.{List, [], _∷_, _++_}
+use Prim.Native.Nat.{ℕ, zero, suc, _+_, _*_, _/_, _%_, _^_}
+use lib.Dec.{eqb}
+use lib.ListN.{length, replicate}
+
+-- the lowest bit of a number
+unfoldable pub odd : ℕ → Bool
+odd n = eqb (n % 2) 1
+
+-- the k low bits of a number, the highest of them first
+unfoldable pub lowBits : ℕ → ℕ → List Bool
+lowBits zero n = []
+lowBits (suc k) n = odd (n / 2 ^ k) ∷ lowBits k n
+
+-- an octet: bit 1 is its most significant bit and goes first
+abbrev pub octetBits : ℕ → List Bool
+octetBits x = lowBits 8 x
+
+-- octets in sending order
+unfoldable pub bitsOf : List ℕ → List Bool
+bitsOf [] = []
+bitsOf (x ∷ xs) = octetBits x ++ bitsOf xs
+
+-- a bit as a digit
+abbrev pub digit : Bool → ℕ
+digit true = 1
+digit false = 0
+
+-- the number that bits spell, most significant first
+unfoldable pub number : List Bool → ℕ
+number [] = 0
+number (b ∷ bs) = digit b * 2 ^ length bs + number bs
+
+-- k bits that are 0
+abbrev pub zeros : ℕ → List Bool
+zeros k = replicate k false
+
+-- the sum without carry of two equally long lists of bits
+unfoldable pub xors : List Bool → List Bool → List Bool
+xors [] ys = []
+xors (x ∷ xs) [] = []
+xors (x ∷ xs) (y ∷ ys) = xor x y ∷ xors xs ys
