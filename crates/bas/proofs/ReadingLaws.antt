@@ -1,17 +1,17 @@
 -- Reading by the table of flips is reading by the definition.
 use mathlib.Core.Path.{_≡_, refl, sym, ap, ap₂, _∙_, subst}
-use mathlib.Core.Bool.{Bool, true, false, xor, not, false≢true}
+use mathlib.Core.Bool.{Bool, true, false, xor, not, false≢true, _&&_, _||_}
 use mathlib.Core.List.{List, [], _∷_, _++_, map, nil≢cons, head-eq-of-cons-eq}
 use mathlib.Core.Logic.{_≢_, ⊎-elim}
 use Prim.Native.Nat.{ℕ, zero, suc, _+_, _-_, _/_, _%_, _^_, _≤_, _<_, min}
 use native.Mathlib.Nat.{suc-inj, suc-ne-zero, eq-or-lt-of-le, le-of-suc-le-suc, lt-suc-self, le-step}
 use native.Mathlib.Decide.{ℕ-discrete}
 use native.Mathlib.Omega.{arith}
-use lib.Dec.{T, leb, eqb, leb→le, eqb→eq, T-not}
+use lib.Dec.{leb, eqb}
 use lib.ListN.{length, take, drop, length-take, length-drop}
 use lib.Seq.{take-at, drop-at}
 use lib.Bits.{bitXor, xor-lt}
-use borrow.Author.Tests.{leb-true, le-leb, lt-leb}
+use borrow.Author.Tests.{leb-true, eqb-true, eqb-false, not-true, le-leb, lt-leb}
 use Rattle.bits.specs.Bits.{odd, lowBits, octetBits, digit, number, zeros, xors}
 use Rattle.bits.specs.Remainder.{scaled, fed, continued, remainder}
 use Rattle.bits.proofs.BitLaws.{xors-comm, xors-medial, xors-self, xors-zeros, xors-cancel, xors-append, xors-swap, take-xors, drop-xors, length-xors, length-lowBits, lowBits-xor, lowBits-append, lowBits-back, lowBits-mod, number-fits, number-bound, number-inj}
@@ -21,72 +21,76 @@ use Rattle.bas.specs.Reading.{weight, distance, near, keptIf, codesNear,
 use Rattle.bas.specs.Flips.{lights, syndrome, filled, flipTable, flipsAt}
 use Rattle.bas.specs.declared.Word.the-variants.{Code, Unreadable}
 use Rattle.bas.proofs.WordLaws.{check-bits, length-wordBits, triangle, five-apart}
-use Rattle.bits.proofs.Every.{either, both, both-left, both-right, both-make, either-right, everyBelow, below}
+use Rattle.bits.proofs.Every.{and-left, and-right, and-make, or-right, everyBelow, below}
 
 -- ---- the table's rule
 abbrev all : (List Bool → Bool) → List (List Bool) → Bool
 all p [] = true
-all p (e ∷ es) = both (p e) (all p es)
+all p (e ∷ es) = p e && all p es
 
 -- each pattern of at most two bits stands at its remainder, and none is 65535
 patternRight : List Bool → Bool
-patternRight e = both (eqb (flipsAt (number (syndrome e))) (number e)) (not (eqb (number e) 65535))
+patternRight e = eqb (flipsAt (number (syndrome e))) (number e) && not (eqb (number e) 65535)
 
-all-patterns : T (all patternRight (lights 16 2))
+all-patterns : all patternRight (lights 16 2) ≡ true
 unfolding patternRight flipsAt flipTable filled syndrome lights number remainder continued fed xors scaled xor
-all-patterns = tt
+all-patterns = refl
 
 -- each entry but 65535 is a pattern of at most two bits with this remainder
 entryRight : ℕ → Bool
 entryRight s =
-    either (eqb (flipsAt s) 65535)
-    (both (leb (weight (lowBits 16 (flipsAt s))) 2) (eqb (number (syndrome (lowBits 16 (flipsAt s)))) s))
+    eqb (flipsAt s) 65535
+    || leb (weight (lowBits 16 (flipsAt s))) 2 && eqb (number (syndrome (lowBits 16 (flipsAt s)))) s
 
-all-entries : T (everyBelow 256 entryRight)
+all-entries : everyBelow 256 entryRight ≡ true
 unfolding entryRight flipsAt flipTable filled syndrome lights lowBits odd weight number remainder continued fed xors scaled xor
-all-entries = tt
+all-entries = refl
 
 -- what passes at each of the light lists passes at each list that is light
-all-map : (p : List Bool → Bool) (f : List Bool → List Bool) (es : List (List Bool)) → T (all p (map f es)) → T (all (λ (l : List Bool). p (f l)) es)
-all-map p f [] t = tt
-all-map p f (e ∷ es) t = both-make (p (f e)) (all (λ (l : List Bool). p (f l)) es) (both-left (p (f e)) (all p (map f es)) t) (all-map p f es (both-right (p (f e)) (all p (map f es)) t))
+all-map : (p : List Bool → Bool) (f : List Bool → List Bool) (es : List (List Bool)) → all p (map f es) ≡ true → all (λ (l : List Bool). p (f l)) es ≡ true
+all-map p f [] t = refl
+all-map p f (e ∷ es) t =
+    and-make (p (f e)) (all (λ (l : List Bool). p (f l)) es) (and-left (p (f e)) (all p (map f es)) t)
+    (all-map p f es (and-right (p (f e)) (all p (map f es)) t))
 
-all-append : (p : List Bool → Bool) (xs ys : List (List Bool)) → T (all p (xs ++ ys)) → T (all p xs) × T (all p ys)
-all-append p [] ys t = (tt, t)
+all-append : (p : List Bool → Bool) (xs ys : List (List Bool)) → all p (xs ++ ys) ≡ true → (all p xs ≡ true) × (all p ys ≡ true)
+all-append p [] ys t = (refl, t)
 all-append p (x ∷ xs) ys t =
-    let rest = all-append p xs ys (both-right (p x) (all p (xs ++ ys)) t) in
-    (both-make (p x) (all p xs) (both-left (p x) (all p (xs ++ ys)) t) (rest .0), rest .1)
+    let rest = all-append p xs ys (and-right (p x) (all p (xs ++ ys)) t) in
+    (and-make (p x) (all p xs) (and-left (p x) (all p (xs ++ ys)) t) (rest .0), rest .1)
 
-light : (n k : ℕ) (p : List Bool → Bool) → T (all p (lights n k)) → (e : List Bool) → length e ≡ n → weight e ≤ k → T (p e)
-unfolding lights weight
-light zero k p t [] h w = both-left (p []) true t
+-- a bit put before each list
+before : Bool → List Bool → List Bool
+before b l = b ∷ l
+
+light : (n k : ℕ) (p : List Bool → Bool) → all p (lights n k) ≡ true → (e : List Bool) → length e ≡ n → weight e ≤ k → p e ≡ true
+unfolding lights weight before
+light zero k p t [] h w = and-left (p []) true t
 light zero k p t (b ∷ e) h w = absurd (suc-ne-zero _ h)
-light (suc n) zero p t [] h w = absurd (suc-ne-zero _ (sym h))
+light (suc n) k p t [] h w = absurd (suc-ne-zero _ (sym h))
 light (suc n) zero p t (true ∷ e) h w = absurd (omega arith)
 light (suc n) zero p t (false ∷ e) h w =
-    light n zero (λ (l : List Bool). p (false ∷ l)) (all-map p (λ (l : List Bool). false ∷ l) (lights n zero) t) e (suc-inj h) (omega arith)
-light (suc n) (suc k) p t [] h w = absurd (suc-ne-zero _ (sym h))
-light (suc n) (suc k) p t (true ∷ e) h w =
-    light n k (λ (l : List Bool). p (true ∷ l))
-    (all-map p (λ (l : List Bool). true ∷ l) (lights n k)
-    (all-append p (map (λ (l : List Bool). false ∷ l) (lights n (suc k))) (map (λ (l : List Bool). true ∷ l) (lights n k)) t .1))
-    e (suc-inj h) (omega arith)
-light (suc n) (suc k) p t (false ∷ e) h w =
-    light n (suc k) (λ (l : List Bool). p (false ∷ l))
-    (all-map p (λ (l : List Bool). false ∷ l) (lights n (suc k))
-    (all-append p (map (λ (l : List Bool). false ∷ l) (lights n (suc k))) (map (λ (l : List Bool). true ∷ l) (lights n k)) t .0))
-    e (suc-inj h) (omega arith)
+    light n zero (λ (l : List Bool). p (false ∷ l)) (all-map p (before false) (lights n zero) t) e (suc-inj h) (omega arith)
+light (suc n) (suc k) p t (b ∷ e) h w = go b e h w (all-append p (map (before false) (lights n (suc k))) (map (before true) (lights n k)) t) (light n)
+  where
+    go : (b : Bool) (e : List Bool) → length (b ∷ e) ≡ suc n → weight (b ∷ e) ≤ suc k
+        → (all p (map (before false) (lights n (suc k))) ≡ true) × (all p (map (before true) (lights n k)) ≡ true)
+        → ((k : ℕ) (p : List Bool → Bool) → all p (lights n k) ≡ true → (e : List Bool) → length e ≡ n → weight e ≤ k → p e ≡ true)
+        → p (b ∷ e) ≡ true
+    go true e h w both rest = rest k (λ (l : List Bool). p (true ∷ l)) (all-map p (before true) (lights n k) (both .1)) e (suc-inj h) (omega arith)
+    go false e h w both rest =
+        rest (suc k) (λ (l : List Bool). p (false ∷ l)) (all-map p (before false) (lights n (suc k)) (both .0)) e (suc-inj h) (omega arith)
 
 -- ---- the codes that are near
-not-true : (b : Bool) → (b ≡ true → ⊥) → b ≡ false
-not-true true h = absurd (h refl)
-not-true false h = refl
+isnt-true : (b : Bool) → (b ≡ true → ⊥) → b ≡ false
+isnt-true true h = absurd (h refl)
+isnt-true false h = refl
 
 none-near : (w n : ℕ) → ((c : ℕ) → c < n → near w c ≡ true → ⊥) → codesNear w n ≡ []
 unfolding codesNear keptIf
 none-near w zero h = refl
 none-near w (suc n) h =
-    rw (not-true (near w n) (h n (lt-suc-self n))) (none-near w n (λ c i. h c (le-step i)))
+    rw (isnt-true (near w n) (h n (lt-suc-self n))) (none-near w n (λ c i. h c (le-step i)))
 
 one-near : (w n c : ℕ) → c < n → near w c ≡ true → ((d : ℕ) → d < n → near w d ≡ true → d ≡ c) → codesNear w n ≡ c ∷ []
 unfolding codesNear keptIf
@@ -97,7 +101,7 @@ one-near w (suc n) c h t only =
     let here : near w n ≡ true = ap (near w) (sym e) ∙ t in
     rw here (ap₂ _∷_ (sym e) (none-near w n (λ d i u. let same = only d (le-step i) u in omega arith))))
     (λ i.
-    let not-here : near w n ≡ false = not-true (near w n) (λ u. let same = only n (lt-suc-self n) u in omega arith) in
+    let not-here : near w n ≡ false = isnt-true (near w n) (λ u. let same = only n (lt-suc-self n) u in omega arith) in
     rw not-here (one-near w n c i t (λ d j u. only d (le-step j) u)))
     (eq-or-lt-of-le (le-of-suc-le-suc h))
 
@@ -186,13 +190,13 @@ unmended w e = reads-none w (λ c h t.
     let off = xors x (wordBits c) in
     let hx : length x ≡ 16 = length-lowBits 16 w in
     let hoff : length off ≡ 16 = length-xors x (wordBits c) (hx ∙ sym (length-wordBits c)) ∙ hx in
-    let test = light 16 2 patternRight all-patterns off hoff (leb-true (weight off) 2 t) in
-    let found = eqb→eq (flipsAt (number (syndrome off))) (number off)
-    (both-left (eqb (flipsAt (number (syndrome off))) (number off)) (not (eqb (number off) 65535)) test) in
-    let full : number off ≡ 65535 = sym found ∙ ap (λ (l : List Bool). flipsAt (number l)) (syndrome-off x c hx) ∙ e in
-    T-not (eqb (number off) 65535)
-    (both-right (eqb (flipsAt (number (syndrome off))) (number off)) (not (eqb (number off) 65535)) test)
-    (subst (λ (n : ℕ). T (eqb n 65535)) (sym full) tt))
+    let stands = eqb (flipsAt (number (syndrome off))) (number off) in
+    let full = eqb (number off) 65535 in
+    let test : (stands && not full) ≡ true = light 16 2 patternRight all-patterns off hoff (leb-true (weight off) 2 t) in
+    let found : flipsAt (number (syndrome off)) ≡ number off =
+    eqb-true (flipsAt (number (syndrome off))) (number off) (and-left stands (not full) test) in
+    eqb-false (number off) 65535 (not-true full (and-right stands (not full) test))
+    (sym found ∙ ap (λ (l : List Bool). flipsAt (number l)) (syndrome-off x c hx) ∙ e))
 
 -- the word with the bits of f flipped is the word of this code
 flipped : ℕ → ℕ → ℕ
@@ -231,17 +235,19 @@ mended w h ne =
     let hx : length x ≡ 16 = length-lowBits 16 w in
     let hy : length y ≡ 16 = length-lowBits 16 f in
     let hs : s < 256 = subst (λ (k : ℕ). s < 2 ^ k) (length-syndrome x hx) (number-bound (syndrome x)) in
-    let test = either-right (eqb f 65535) (both (leb (weight y) 2) (eqb (number (syndrome y)) s)) (λ t. ne (eqb→eq f 65535 t))
-    (below 256 entryRight all-entries s hs) in
-    let few : weight y ≤ 2 = leb→le (weight y) 2 (both-left (leb (weight y) 2) (eqb (number (syndrome y)) s) test) in
-    let same : syndrome x ≡ syndrome y =
+    let few = leb (weight y) 2 in
+    let same = eqb (number (syndrome y)) s in
+    let test : (few && same) ≡ true =
+    or-right (eqb f 65535) (few && same) (λ t. ne (eqb-true f 65535 t)) (below 256 entryRight all-entries s hs) in
+    let light-y : weight y ≤ 2 = leb-true (weight y) 2 (and-left few same test) in
+    let equal : syndrome x ≡ syndrome y =
     number-inj (syndrome x) (syndrome y) (length-syndrome x hx ∙ sym (length-syndrome y hy))
-    (sym (eqb→eq (number (syndrome y)) s (both-right (leb (weight y) 2) (eqb (number (syndrome y)) s) test))) in
-    let off : xors x (wordBits (flipped w f)) ≡ y = ap (xors x) (flipped-word w f same) ∙ xors-cancel x y (hx ∙ sym hy) in
+    (sym (eqb-true (number (syndrome y)) s (and-right few same test))) in
+    let off : xors x (wordBits (flipped w f)) ≡ y = ap (xors x) (flipped-word w f equal) ∙ xors-cancel x y (hx ∙ sym hy) in
     let hw : w / 256 < 256 = omega arith in
     let hf : f / 256 % 256 < 256 = omega arith in
     reads w (flipped w f) (xor-lt 8 (w / 256) (f / 256 % 256) hw hf)
-    (le-leb (weight (xors x (wordBits (flipped w f)))) 2 (subst (λ (l : List Bool). weight l ≤ 2) (sym off) few))
+    (le-leb (weight (xors x (wordBits (flipped w f)))) 2 (subst (λ (l : List Bool). weight l ≤ 2) (sym off) light-y))
 
 -- ---- what the definition means for a word that was sent
 unreadable≢code : (c : ℕ) → Unreadable ≡ Code c → ⊥

@@ -1,11 +1,12 @@
 -- Laws of BAS words: the word as a number, sums of words, distances, and that two codes' words differ in at least five bits.
 use mathlib.Core.Path.{_≡_, refl, sym, ap, ap₂, _∙_, subst}
-use mathlib.Core.Bool.{Bool, true, false, xor}
+use mathlib.Core.Bool.{Bool, true, false, xor, _||_}
 use mathlib.Core.List.{List, [], _∷_, _++_}
 use mathlib.Core.Logic.{_≢_}
 use Prim.Native.Nat.{ℕ, _+_, _*_, _/_, _%_, _^_, _≤_, _<_}
 use native.Mathlib.Omega.{arith}
-use lib.Dec.{T, leb, eqb, leb→le, eqb→eq, lit<}
+use lib.Dec.{leb, eqb, lit<}
+use borrow.Author.Tests.{leb-true, eqb-true}
 use lib.ListN.{length, take, drop, length-append}
 use lib.Seq.{take-at, drop-at}
 use lib.Bits.{bitXor, xor-lt}
@@ -13,7 +14,7 @@ use Rattle.bits.specs.Bits.{odd, lowBits, octetBits, digit, number, zeros, xors
 use Rattle.bits.specs.Remainder.{scaled, fed, continued, remainder, Leaves}
 use Rattle.bits.proofs.BitLaws.{xors-comm, xors-assoc, xors-zeros, xors-cancel, xors-append, length-lowBits, lowBits-xor, lowBits-zero, lowBits-back, lowBits-append, lowBits-mod, number-fits, number-bound, number-append}
 use Rattle.bits.proofs.RemainderLaws.{length-remainder, remainder-xor, is-remainder, only-remainder}
-use Rattle.bits.proofs.Every.{either, either-right, everyBelow, below}
+use Rattle.bits.proofs.Every.{or-right, everyBelow, below}
 use Rattle.bas.specs.Words.{basGenerator, checkOf, wordBits, wordOf, evenOrder, oddOrder, lineOrder}
 use Rattle.bas.specs.Reading.{weight, distance}
 
@@ -84,11 +85,11 @@ triangle a b c hab hbc =
 
 -- ---- two codes' words differ in at least five bits
 heavy : ℕ → Bool
-heavy d = either (eqb d 0) (leb 5 (weight (wordBits d)))
+heavy d = eqb d 0 || leb 5 (weight (wordBits d))
 
-all-heavy : T (everyBelow 256 heavy)
+all-heavy : everyBelow 256 heavy ≡ true
 unfolding heavy weight wordBits number remainder continued lowBits fed xors scaled xor odd
-all-heavy = tt
+all-heavy = refl
 
 sum-zero : (c d : ℕ) → c < 256 → d < 256 → bitXor c d ≡ 0 → c ≡ d
 sum-zero c d hc hd e =
@@ -104,10 +105,10 @@ pub five-apart : (c d : ℕ) → c < 256 → d < 256 → c ≢ d → 5 ≤ dista
 unfolding heavy distance
 five-apart c d hc hd ne =
     let s = bitXor c d in
-    let test : T (leb 5 (weight (wordBits s))) =
-    either-right (eqb s 0) (leb 5 (weight (wordBits s))) (λ t. ne (sum-zero c d hc hd (eqb→eq s 0 t)))
+    let far : leb 5 (weight (wordBits s)) ≡ true =
+    or-right (eqb s 0) (leb 5 (weight (wordBits s))) (λ e. ne (sum-zero c d hc hd (eqb-true s 0 e)))
     (below 256 heavy all-heavy s (xor-lt 8 c d hc hd)) in
-    subst (λ (l : List Bool). 5 ≤ weight l) (wordBits-xor c d) (leb→le 5 (weight (wordBits s)) test)
+    subst (λ (l : List Bool). 5 ≤ weight l) (wordBits-xor c d) (leb-true 5 (weight (wordBits s)) far)
 
 -- ---- the order on the line
 -- the order is its own inverse

@@ -1,44 +1,35 @@
 -- A test that antt computes at every number below n, and the fact that it gives at each.
-use mathlib.Core.Path.{sym, subst}
-use mathlib.Core.Bool.{Bool, true, false}
+use mathlib.Core.Path.{_≡_, refl, sym, ap, _∙_}
+use mathlib.Core.Bool.{Bool, true, false, false≢true, _&&_, _||_}
 use mathlib.Core.Logic.{⊎-elim}
 use Prim.Native.Nat.{ℕ, zero, suc, _<_}
 use native.Mathlib.Nat.{eq-or-lt-of-le, le-of-suc-le-suc}
 use native.Mathlib.Omega.{arith}
-use lib.Dec.{T}
 
-abbrev pub either : Bool → Bool → Bool
-either true b = true
-either false b = b
+pub and-left : (a b : Bool) → (a && b) ≡ true → a ≡ true
+and-left true b e = refl
+and-left false b e = e
 
-abbrev pub both : Bool → Bool → Bool
-both true b = b
-both false b = false
+pub and-right : (a b : Bool) → (a && b) ≡ true → b ≡ true
+and-right true b e = e
+and-right false b e = absurd (false≢true e)
 
-pub both-left : (a b : Bool) → T (both a b) → T a
-both-left true b t = tt
-both-left false b t = t
+pub and-make : (a b : Bool) → a ≡ true → b ≡ true → (a && b) ≡ true
+and-make true b e f = f
+and-make false b e f = e
 
-pub both-right : (a b : Bool) → T (both a b) → T b
-both-right true b t = t
-both-right false b t = absurd t
-
-pub both-make : (a b : Bool) → T a → T b → T (both a b)
-both-make true b t u = u
-both-make false b t u = t
-
-pub either-right : (a b : Bool) → (T a → ⊥) → T (either a b) → T b
-either-right true b no-a t = absurd (no-a tt)
-either-right false b no-a t = t
+pub or-right : (a b : Bool) → (a ≡ true → ⊥) → (a || b) ≡ true → b ≡ true
+or-right true b no-a e = absurd (no-a refl)
+or-right false b no-a e = e
 
 abbrev pub everyBelow : ℕ → (ℕ → Bool) → Bool
 everyBelow zero p = true
-everyBelow (suc n) p = both (p n) (everyBelow n p)
+everyBelow (suc n) p = p n && everyBelow n p
 
-pub below : (n : ℕ) (p : ℕ → Bool) → T (everyBelow n p) → (k : ℕ) → k < n → T (p k)
-below zero p t k h = absurd (omega arith)
-below (suc n) p t k h =
+pub below : (n : ℕ) (p : ℕ → Bool) → everyBelow n p ≡ true → (k : ℕ) → k < n → p k ≡ true
+below zero p e k h = absurd (omega arith)
+below (suc n) p e k h =
     ⊎-elim
-    (λ e. subst (λ (m : ℕ). T (p m)) (sym e) (both-left (p n) (everyBelow n p) t))
-    (λ i. below n p (both-right (p n) (everyBelow n p) t) k i)
+    (λ same. ap p same ∙ and-left (p n) (everyBelow n p) e)
+    (λ less. below n p (and-right (p n) (everyBelow n p) e) k less)
     (eq-or-lt-of-le (le-of-suc-le-suc h))

@@ -6,18 +6,19 @@ use Prim.Native.Nat.{ℕ, zero, suc, _+_, _<_}
 use native.Mathlib.Nat.{add-zero, zero-add, add-suc, suc-add, le-of-suc-le-suc, not-suc-le-zero}
 use lib.ListN.{getD}
 
--- n entries, from place i on
-abbrev pub tableFrom : ℕ → ℕ → (ℕ → ℕ) → List ℕ
-tableFrom i zero rule = []
-tableFrom i (suc n) rule = rule i ∷ tableFrom (suc i) n rule
+module _ {A : Type 0} where
+  -- n entries, from place i on
+  abbrev pub tableFrom : ℕ → ℕ → (ℕ → A) → List A
+  tableFrom i zero rule = []
+  tableFrom i (suc n) rule = rule i ∷ tableFrom (suc i) n rule
 
-abbrev pub table : ℕ → (ℕ → ℕ) → List ℕ
-table n rule = tableFrom 0 n rule
+  abbrev pub table : ℕ → (ℕ → A) → List A
+  table n rule = tableFrom 0 n rule
 
-from : (n i : ℕ) (rule : ℕ → ℕ) (k : ℕ) → k < n → getD (tableFrom i n rule) k 0 ≡ rule (i + k)
-from zero i rule k h = absurd (not-suc-le-zero h)
-from (suc n) i rule zero h = ap rule (sym (add-zero i))
-from (suc n) i rule (suc k) h = from n (suc i) rule k (le-of-suc-le-suc h) ∙ ap rule (suc-add i k ∙ sym (add-suc i k))
+  from : (n i : ℕ) (rule : ℕ → A) (d : A) (k : ℕ) → k < n → getD (tableFrom i n rule) k d ≡ rule (i + k)
+  from zero i rule d k h = absurd (not-suc-le-zero h)
+  from (suc n) i rule d zero h = ap rule (sym (add-zero i))
+  from (suc n) i rule d (suc k) h = from n (suc i) rule d k (le-of-suc-le-suc h) ∙ ap rule (suc-add i k ∙ sym (add-suc i k))
 
-pub entry : (n : ℕ) (rule : ℕ → ℕ) (k : ℕ) → k < n → getD (table n rule) k 0 ≡ rule k
-entry n rule k h = from n 0 rule k h ∙ ap rule (zero-add k)
+  pub entry : (n : ℕ) (rule : ℕ → A) (d : A) (k : ℕ) → k < n → getD (table n rule) k d ≡ rule k
+  entry n rule d k h = from n 0 rule d k h ∙ ap rule (zero-add k)

@@ -16,7 +16,7 @@ returns : tie.Need-returns
 unfolding checkOf number remainder continued lowBits fed xors scaled xor odd
 returns c =
     let h : c .args .code < 256 = search needs in
-    entry 256 checkOf (c .args .code) h
+    entry 256 checkOf 0 (c .args .code) h
 
 pub check-octet-spec : {M : Type 1} → statement M
 check-octet-spec = tie.close (tie.spec array-read-result returns)

@@ -43,7 +43,7 @@ returns : tie.Need-returns
 unfolding crc4From rule number remainder continued lowBits fed xors scaled xor odd
 returns c =
     let h : c .args .octet < 256 = search needs in
-    entry 256 rule (bitXor (c .args .before % 16 * 16) (c .args .octet)) (below (c .args .before) (c .args .octet) h)
+    entry 256 rule 0 (bitXor (c .args .before % 16 * 16) (c .args .octet)) (below (c .args .before) (c .args .octet) h)
     ∙ ap number (folded (c .args .before) (c .args .octet))
     ∙ ap (λ (l : List Bool). number (continued crc4Generator (lowBits 4 (c .args .before)) l)) (sym (bitsOf-one (c .args .octet)))
 

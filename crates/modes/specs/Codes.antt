@@ -1,0 +1,38 @@
+-- Document 01, 'BAS words' and 'Codes and bit places': how a code is written, and which codes are listed.
+use mathlib.Core.Bool.{Bool}
+use Prim.Native.Nat.{ℕ, _+_, _*_, _/_, _%_}
+use Rattle.modes.specs.Table.{audioPlaces, lsdPlaces}
+
+-- a code is written (attribute b0b1b2)[value b3..b7]
+abbrev pub attribute : ℕ → ℕ
+attribute code = code / 32
+
+abbrev pub value : ℕ → ℕ
+value code = code % 32
+
+abbrev pub written : ℕ → ℕ → ℕ
+written attribute value = attribute * 32 + value
+
+-- the attributes of audio and data; `lsd` is the data stream, H.221's low-speed data
+abbrev pub audioAttribute : ℕ
+audioAttribute = 0b000
+
+abbrev pub lsdAttribute : ℕ
+lsdAttribute = 0b011
+
+-- (000)[0] is neutral
+abbrev pub neutral : ℕ
+neutral = written audioAttribute 0
+
+-- audio off is [31], data off is [0]
+abbrev pub audioOff : ℕ
+audioOff = 31
+
+abbrev pub lsdOff : ℕ
+lsdOff = 0
+
+abbrev pub listedAudio : ℕ → Bool
+listedAudio v = (audioPlaces v) .listed
+
+abbrev pub listedLsd : ℕ → Bool
+listedLsd v = (lsdPlaces v) .listed

@@ -1,0 +1,55 @@
+-- Document 01, 'Codes and bit places': whose each place of a frame is. A place is an octet number, 1 to 80, and a bit, 1 to 8.
+use mathlib.Core.Bool.{Bool, true, false, cond, _&&_, _||_}
+use Prim.Native.Nat.{ℕ, zero, suc, _+_}
+use lib.Dec.{leb, eqb}
+use Rattle.bits.specs.Bits.{digit}
+use Rattle.modes.specs.Table.{scOctets, octetBitsFrom, audioPlaces, lsdPlaces}
+use Rattle.modes.specs.declared.Places.{Places}
+use Rattle.modes.specs.declared.Mode.{Mode}
+use Rattle.modes.specs.declared.Owner.{Owner}
+use Rattle.modes.specs.declared.Owner.the-variants.{Service, Voice, Lsd, Nobody}
+
+-- n is one of a to b
+abbrev pub within : ℕ → ℕ → ℕ → Bool
+within a b n = leb a n && leb n b
+
+-- these places have the one of this octet and this bit among them; the service channel is bit 8
+unfoldable pub holds : Places → ℕ → ℕ → Bool
+holds p octet bit = cond (eqb bit 8) (within (p .first) (p .last) octet) (within (p .from) (p .to) bit)
+
+-- what each holds under a mode: the service bits are SC bits 1 to 16
+unfoldable pub heldBy : Mode → Owner → Places
+heldBy m Service = scOctets 1 16
+heldBy m Voice = audioPlaces (m .audio)
+heldBy m Lsd = lsdPlaces (m .lsd)
+heldBy m Nobody = octetBitsFrom 8
+
+-- the one rule for the owner of a place: the first of these that holds it. So each place of each mode has one owner
+unfoldable pub ownerOf : Mode → ℕ → ℕ → Owner
+ownerOf m octet bit =
+    cond (holds (heldBy m Service) octet bit) Service
+    (cond (holds (heldBy m Voice) octet bit) Voice
+    (cond (holds (heldBy m Lsd) octet bit) Lsd
+    Nobody))
+
+-- some number of 1 to n has p
+unfoldable pub some : ℕ → (ℕ → Bool) → Bool
+some zero p = false
+some (suc n) p = p (suc n) || some n p
+
+-- how many numbers of 1 to n have p
+unfoldable pub count : ℕ → (ℕ → ℕ) → ℕ
+count zero p = 0
+count (suc n) p = p (suc n) + count n p
+
+-- some place is held by both
+unfoldable pub clash : Places → Places → Bool
+clash p q = some 80 (λ (octet : ℕ). some 8 (λ (bit : ℕ). holds p octet bit && holds q octet bit))
+
+-- audio and data overlap
+unfoldable pub overlaps : Mode → Bool
+overlaps m = clash (heldBy m Voice) (heldBy m Lsd)
+
+-- how many places of a frame are held
+unfoldable pub bitsPerFrame : Places → ℕ
+bitsPerFrame p = count 80 (λ (octet : ℕ). count 8 (λ (bit : ℕ). digit (holds p octet bit)))

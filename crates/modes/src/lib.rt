@@ -1,0 +1,400 @@
+// Codes, the bit places that they hold, and modes (document 01, 'Codes and bit places', 'Slots' and 'Sending a block').
+ghost use mathlib.Core.Path.{_≡_};
+ghost use mathlib.Core.Bool.{_&&_};
+ghost use Prim.Native.Nat.{_<_};
+ghost use lib.Dec.{leb, eqb};
+ghost use Rattle.modes.specs.Numbers.{evenFrame, oddFrame, following};
+ghost use Rattle.modes.specs.Table.{placesAt, audioPlaces, lsdPlaces};
+ghost use Rattle.modes.specs.Codes.{attribute, value, audioAttribute, lsdAttribute, listedAudio, listedLsd};
+ghost use Rattle.modes.specs.Owners.{holds, heldBy, ownerOf, overlaps, bitsPerFrame};
+ghost use Rattle.modes.specs.Carried.{carried, senderCarries, readerCarries, openingOf};
+ghost use Rattle.modes.specs.Commands.{inRange, commandOf, offered, followed};
+
+// The three numbers that are counted apart: a frame of a multiframe, 0 to 15; a block of it, 1 to 8; an octet of a frame, 1 to 80.
+pub struct FrameNumber(pub u8);
+
+pub struct BlockNumber(pub u8);
+
+pub struct OctetNumber(pub u8);
+
+// What is in force: an audio value of (000) and a data value of (011).
+pub struct Mode {
+    pub audio: u8,
+    pub lsd: u8,
+}
+
+// Octet bits `from` to `to` of every octet, and the SC bit of octets `first` to `last`. A range that ends before it starts is empty.
+pub struct Places {
+    pub listed: bool,
+    pub from: u8,
+    pub to: u8,
+    pub first: u8,
+    pub last: u8,
+}
+
+// Whose a place is. Lsd is the data stream.
+pub enum Owner {
+    Service,
+    Voice,
+    Lsd,
+    Nobody,
+}
+
+// What a code makes of the words after it.
+pub enum Opening {
+    Nothing,
+    Item,
+    Message,
+}
+
+// What a code is as a command.
+pub enum Command {
+    Neutral,
+    SetAudio(u8),
+    SetLsd(u8),
+    NoEffect,
+}
+
+// From audio and data value to the bit places they hold: audio [v] in row v, data [v] in row 32 + v.
+// A row is 1 where the value is listed, and then from, to, first and last.
+const PLACES: [[u8; 5]; 64] = [
+    [1, 1, 0, 17, 16],
+    [0, 1, 0, 17, 16],
+    [0, 1, 0, 17, 16],
+    [0, 1, 0, 17, 16],
+    [0, 1, 0, 17, 16],
+    [0, 1, 0, 17, 16],
+    [0, 1, 0, 17, 16],
+    [0, 1, 0, 17, 16],
+    [0, 1, 0, 17, 16],
+    [0, 1, 0, 17, 16],
+    [0, 1, 0, 17, 16],
+    [1, 1, 1, 17, 16],
+    [0, 1, 0, 17, 16],
+    [0, 1, 0, 17, 16],
+    [0, 1, 0, 17, 16],
+    [0, 1, 0, 17, 16],
+    [0, 1, 0, 17, 16],
+    [0, 1, 0, 17, 16],
+    [1, 1, 7, 17, 16],
+    [1, 1, 7, 17, 16],
+    [1, 1, 6, 17, 16],
+    [1, 1, 6, 17, 16],
+    [0, 1, 0, 17, 16],
+    [0, 1, 0, 17, 16],
+    [1, 1, 7, 17, 16],
+    [1, 1, 6, 17, 16],
+    [0, 1, 0, 17, 16],
+    [1, 1, 4, 17, 16],
+    [1, 1, 3, 17, 16],
+    [1, 1, 2, 17, 16],
+    [0, 1, 0, 17, 16],
+    [1, 1, 0, 17, 16],
+    [1, 8, 7, 17, 16],
+    [1, 8, 7, 38, 40],
+    [1, 8, 7, 29, 40],
+    [1, 8, 7, 33, 80],
+    [1, 8, 7, 17, 80],
+    [1, 7, 7, 17, 16],
+    [1, 7, 7, 25, 40],
+    [1, 7, 7, 17, 80],
+    [1, 6, 7, 17, 16],
+    [1, 5, 7, 17, 16],
+    [1, 4, 7, 17, 16],
+    [1, 3, 7, 17, 16],
+    [1, 2, 7, 17, 16],
+    [1, 1, 7, 17, 16],
+    [1, 1, 7, 17, 80],
+    [0, 8, 7, 17, 16],
+    [0, 8, 7, 17, 16],
+    [0, 8, 7, 17, 16],
+    [0, 8, 7, 17, 16],
+    [0, 8, 7, 17, 16],
+    [0, 8, 7, 17, 16],
+    [0, 8, 7, 17, 16],
+    [0, 8, 7, 17, 16],
+    [0, 8, 7, 17, 16],
+    [0, 8, 7, 17, 16],
+    [0, 8, 7, 17, 16],
+    [0, 8, 7, 17, 16],
+    [0, 8, 7, 17, 16],
+    [0, 8, 7, 17, 16],
+    [0, 8, 7, 17, 16],
+    [0, 8, 7, 17, 16],
+    [0, 8, 7, 17, 16],
+];
+
+// A row of the table.
+fn places_at(row: u8) -> Places
+    requires { ⌜ row < 64 ⌝ }
+    ensures { λ r. ⌜ r ≡ placesAt row ⌝ }
+{
+    let held = PLACES[row as usize];
+    Places {
+        listed: held[0] == 1,
+        from: held[1],
+        to: held[2],
+        first: held[3],
+        last: held[4],
+    }
+}
+
+// The places of audio [v].
+fn audio_places(v: u8) -> Places
+    ensures { λ r. ⌜ r ≡ audioPlaces v ⌝ }
+{
+    if v < 32 {
+        return places_at(v);
+    }
+    Places {
+        listed: false,
+        from: 1,
+        to: 0,
+        first: 17,
+        last: 16,
+    }
+}
+
+// The places of data [v].
+fn lsd_places(v: u8) -> Places
+    ensures { λ r. ⌜ r ≡ lsdPlaces v ⌝ }
+{
+    if v < 32 {
+        return places_at(32 + v);
+    }
+    Places {
+        listed: false,
+        from: 8,
+        to: 7,
+        first: 17,
+        last: 16,
+    }
+}
+
+// The even frame of a block, and the odd one.
+pub fn even_frame(block: BlockNumber) -> FrameNumber
+    ensures { λ r. ⌜ r ≡ evenFrame block ⌝ }
+{
+    let b = block.0;
+    if b == 0 {
+        return FrameNumber(0);
+    }
+    FrameNumber((b - 1) % 8 * 2)
+}
+
+pub fn odd_frame(block: BlockNumber) -> FrameNumber
+    ensures { λ r. ⌜ r ≡ oddFrame block ⌝ }
+{
+    let even = even_frame(block);
+    FrameNumber(even.0 + 1)
+}
+
+// The block after a block.
+pub fn next_block(block: BlockNumber) -> BlockNumber
+    ensures { λ r. ⌜ r ≡ following block ⌝ }
+{
+    let b = block.0;
+    if b < 8 {
+        return BlockNumber(b + 1);
+    }
+    BlockNumber(1)
+}
+
+// What an owner holds under a mode.
+pub fn held_by(mode: Mode, owner: Owner) -> Places
+    ensures { λ r. ⌜ r ≡ heldBy mode owner ⌝ }
+{
+    match owner {
+        Owner::Service => Places {
+            listed: true,
+            from: 8,
+            to: 7,
+            first: 1,
+            last: 16,
+        },
+        Owner::Voice => audio_places(mode.audio),
+        Owner::Lsd => lsd_places(mode.lsd),
+        Owner::Nobody => Places {
+            listed: true,
+            from: 8,
+            to: 7,
+            first: 17,
+            last: 16,
+        },
+    }
+}
+
+fn is_held(p: Places, octet: u8, bit: u8) -> bool
+    ensures { λ r. ⌜ r ≡ holds p octet bit ⌝ }
+{
+    if bit == 8 {
+        return (p.first <= octet) & (octet <= p.last);
+    }
+    (p.from <= bit) & (bit <= p.to)
+}
+
+// The owner of a place.
+pub fn owner_of(mode: Mode, octet: OctetNumber, bit: u8) -> Owner
+    ensures { λ r. ⌜ r ≡ ownerOf mode (octet .0) bit ⌝ }
+{
+    if is_held(held_by(mode, Owner::Service), octet.0, bit) {
+        return Owner::Service;
+    }
+    if is_held(held_by(mode, Owner::Voice), octet.0, bit) {
+        return Owner::Voice;
+    }
+    if is_held(held_by(mode, Owner::Lsd), octet.0, bit) {
+        return Owner::Lsd;
+    }
+    Owner::Nobody
+}
+
+// Whether two ranges have a number in common.
+fn meet(a: u8, b: u8, c: u8, d: u8) -> bool
+    ensures { λ r. ⌜ r ≡ (leb a b && leb c d && leb a d && leb c b) ⌝ }
+{
+    (a <= b) & (c <= d) & (a <= d) & (c <= b)
+}
+
+// Whether audio and data overlap.
+pub fn overlap(mode: Mode) -> bool
+    ensures { λ r. ⌜ r ≡ overlaps mode ⌝ }
+{
+    let v = audio_places(mode.audio);
+    let d = lsd_places(mode.lsd);
+    meet(v.from, v.to, d.from, d.to) | meet(v.first, v.last, d.first, d.last)
+}
+
+// How many bits of a frame an owner holds under a mode.
+pub fn bits_per_frame(mode: Mode, owner: Owner) -> u16
+    ensures { λ r. ⌜ r ≡ bitsPerFrame (heldBy mode owner) ⌝ }
+{
+    let p = held_by(mode, owner);
+    let columns = p.to + 1 - p.from;
+    let channel = p.last + 1 - p.first;
+    (columns as u16) * 80 + (channel as u16)
+}
+
+// Whether a mode holds listed codes, audio never as [0], that do not overlap.
+pub fn in_range(mode: Mode) -> bool
+    ensures { λ r. ⌜ r ≡ inRange mode ⌝ }
+{
+    let v = audio_places(mode.audio);
+    let d = lsd_places(mode.lsd);
+    v.listed & (mode.audio != 0) & d.listed & !overlap(mode)
+}
+
+// Whether a code is one of the audio codes of 01's list, or of its data codes.
+fn is_audio(code: u8) -> bool
+    ensures { λ r. ⌜ r ≡ (eqb (attribute code) audioAttribute && listedAudio (value code)) ⌝ }
+{
+    let p = audio_places(code % 32);
+    (code / 32 == 0) & p.listed
+}
+
+fn is_lsd(code: u8) -> bool
+    ensures { λ r. ⌜ r ≡ (eqb (attribute code) lsdAttribute && listedLsd (value code)) ⌝ }
+{
+    let p = lsd_places(code % 32);
+    (code / 32 == 3) & p.listed
+}
+
+// Whether a code is carried when plain.
+fn is_carried(code: u8) -> bool
+    ensures { λ r. ⌜ r ≡ carried code ⌝ }
+{
+    let attribute = code / 32;
+    let value = code % 32;
+    is_audio(code)
+        | is_lsd(code)
+        | (code == 32)
+        | ((4 <= attribute) & (attribute <= 6))
+        | ((attribute == 7) & (((15 <= value) & (value <= 20)) | (value == 24)))
+}
+
+// Whether the sender carries a code when plain; whether the reader does.
+pub fn sender_carries(code: u8) -> bool
+    ensures { λ r. ⌜ r ≡ senderCarries code ⌝ }
+{
+    is_carried(code)
+}
+
+pub fn reader_carries(code: u8) -> bool
+    ensures { λ r. ⌜ r ≡ readerCarries code ⌝ }
+{
+    is_carried(code)
+}
+
+// What a code makes of the words after it.
+pub fn opening_of(code: u8) -> Opening
+    ensures { λ r. ⌜ r ≡ openingOf code ⌝ }
+{
+    if code / 32 == 7 {
+        let value = code % 32;
+        if value <= 23 {
+            return Opening::Item;
+        }
+        if value == 24 {
+            return Opening::Nothing;
+        }
+        return Opening::Message;
+    }
+    Opening::Nothing
+}
+
+// What a code is as a command.
+pub fn command_of(code: u8) -> Command
+    ensures { λ r. ⌜ r ≡ commandOf code ⌝ }
+{
+    if code == 0 {
+        return Command::Neutral;
+    }
+    if is_audio(code) {
+        return Command::SetAudio(code % 32);
+    }
+    if is_lsd(code) {
+        return Command::SetLsd(code % 32);
+    }
+    Command::NoEffect
+}
+
+// The mode that a command of the sender leaves.
+pub fn offer(command: Command, mode: Mode) -> Mode
+    ensures { λ r. ⌜ r ≡ offered command mode ⌝ }
+{
+    match command {
+        Command::Neutral => Mode { audio: 31, lsd: 0 },
+        Command::SetAudio(v) => Mode {
+            audio: v,
+            lsd: mode.lsd,
+        },
+        Command::SetLsd(v) => Mode {
+            audio: mode.audio,
+            lsd: v,
+        },
+        Command::NoEffect => mode,
+    }
+}
+
+// The mode that a command leaves at the reader, where one that overlaps the other stream turns that stream off.
+pub fn follow(command: Command, mode: Mode) -> Mode
+    ensures { λ r. ⌜ r ≡ followed command mode ⌝ }
+{
+    let next = offer(command, mode);
+    match command {
+        Command::Neutral => next,
+        Command::SetAudio(v) => {
+            if overlap(next) {
+                return Mode { audio: v, lsd: 0 };
+            }
+            next
+        }
+        Command::SetLsd(v) => {
+            if overlap(next) {
+                return Mode { audio: 31, lsd: v };
+            }
+            next
+        }
+        Command::NoEffect => next,
+    }
+}
