@@ -1,7 +1,7 @@
 -- Document 01, 'What the unit carries': frame number, block number and octet number are counted apart.
 -- Eight blocks (1 to 8) are a multiframe, whose frames are 0 to 15; a frame's octets are 1 to 80.
 use mathlib.Core.Bool.{cond}
-use Prim.Native.Nat.{ℕ, _+_, _-_, _*_, _%_}
+use Prim.Native.Nat.{_+_, _-_, _*_, _%_}
 use lib.Dec.{ltb}
 use Rattle.modes.specs.declared.BlockNumber.{BlockNumber}
 use Rattle.modes.specs.declared.FrameNumber.{FrameNumber}

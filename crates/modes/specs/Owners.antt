@@ -1,5 +1,5 @@
 -- Document 01, 'Codes and bit places': whose each place of a frame is. A place is an octet number, 1 to 80, and a bit, 1 to 8.
-use mathlib.Core.Bool.{Bool, true, false, cond, _&&_, _||_}
+use mathlib.Core.Bool.{Bool, false, cond, _&&_, _||_}
 use Prim.Native.Nat.{ℕ, zero, suc, _+_}
 use lib.Dec.{leb, eqb}
 use Rattle.bits.specs.Bits.{digit}

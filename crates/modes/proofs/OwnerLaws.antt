@@ -1,0 +1,177 @@
+-- Laws of places held: a place held by both is a bit or an SC octet common to both ranges, and a count of places is a count of each range.
+use mathlib.Core.Path.{_≡_, refl, sym, ap, ap₂, _∙_}
+use mathlib.Core.Bool.{Bool, true, false, false≢true, cond, _&&_, _||_, or-true}
+use mathlib.Core.Logic.{⊎-elim}
+use Prim.Native.Nat.{ℕ, zero, suc, _+_, _-_, _*_, _≤_, min}
+use native.Mathlib.Nat.{eq-or-lt-of-le, le-of-suc-le-suc, le-step, suc-mul, zero-mul}
+use native.Mathlib.Omega.{arith}
+use lib.Dec.{eqb, leb}
+use borrow.Author.Tests.{leb-true, leb-false, eqb-true, le-leb, ne-eqb}
+use Rattle.bits.specs.Bits.{digit}
+use Rattle.bits.proofs.Every.{and-left, and-right, and-make}
+use Rattle.modes.specs.Owners.{within, holds, some, count, clash, bitsPerFrame}
+use Rattle.modes.specs.declared.Places.{Places}
+use Rattle.modes.proofs.TableLaws.{Fit}
+
+-- ---- some number of 1 to n
+some-at : (n : ℕ) (p : ℕ → Bool) (k : ℕ) → 1 ≤ k → k ≤ n → p k ≡ true → some n p ≡ true
+unfolding some
+some-at zero p k h l e = absurd (omega arith)
+some-at (suc n) p k h l e =
+    ⊎-elim
+    (λ same. ap (λ (b : Bool). b || some n p) (ap p (sym same) ∙ e))
+    (λ less. ap (λ (b : Bool). p (suc n) || b) (some-at n p k h (le-of-suc-le-suc less) e) ∙ or-true (p (suc n)))
+    (eq-or-lt-of-le l)
+
+some-none : (n : ℕ) (p : ℕ → Bool) → ((k : ℕ) → p k ≡ false) → some n p ≡ false
+unfolding some
+some-none zero p h = refl
+some-none (suc n) p h = ap₂ _||_ (h (suc n)) (some-none n p h)
+
+-- ---- two ranges
+abbrev pub meets : ℕ → ℕ → ℕ → ℕ → Bool
+meets a b c d = leb a b && leb c d && leb a d && leb c b
+
+within-make : (a b n : ℕ) → a ≤ n → n ≤ b → within a b n ≡ true
+within-make a b n h l = and-make (leb a n) (leb n b) (le-leb a n h) (le-leb n b l)
+
+-- the greater of the two starts is in both ranges
+abbrev start : ℕ → ℕ → ℕ
+start a c = cond (leb a c) c a
+
+start-in : (a b c d : ℕ) → meets a b c d ≡ true → (within a b (start a c) && within c d (start a c)) ≡ true
+start-in a b c d t =
+    let t3 = and-left (leb a b && leb c d && leb a d) (leb c b) t in
+    let t2 = and-left (leb a b && leb c d) (leb a d) t3 in
+    let ab = leb-true a b (and-left (leb a b) (leb c d) t2) in
+    let cd = leb-true c d (and-right (leb a b) (leb c d) t2) in
+    let ad = leb-true a d (and-right (leb a b && leb c d) (leb a d) t3) in
+    let cb = leb-true c b (and-right (leb a b && leb c d && leb a d) (leb c b) t) in
+    go (leb a c) refl ab cd ad cb
+  where
+    go : (s : Bool) → leb a c ≡ s → a ≤ b → c ≤ d → a ≤ d → c ≤ b → (within a b (cond s c a) && within c d (cond s c a)) ≡ true
+    go true e ab cd ad cb =
+        and-make (within a b c) (within c d c) (within-make a b c (leb-true a c e) cb) (within-make c d c (omega arith) cd)
+    go false e ab cd ad cb =
+        let ca = leb-false a c e in
+        and-make (within a b a) (within c d a) (within-make a b a (omega arith) ab) (within-make c d a (omega arith) ad)
+
+apart : (a b c d n : ℕ) → meets a b c d ≡ false → (within a b n && within c d n) ≡ false
+apart a b c d n f = go (within a b n && within c d n) refl
+  where
+    go : (s : Bool) → (within a b n && within c d n) ≡ s → s ≡ false
+    go false e = refl
+    go true e =
+        let ab = and-left (within a b n) (within c d n) e in
+        let cd = and-right (within a b n) (within c d n) e in
+        let an = leb-true a n (and-left (leb a n) (leb n b) ab) in
+        let nb = leb-true n b (and-right (leb a n) (leb n b) ab) in
+        let cn = leb-true c n (and-left (leb c n) (leb n d) cd) in
+        let nd = leb-true n d (and-right (leb c n) (leb n d) cd) in
+        absurd (false≢true (sym f ∙ and-make (leb a b && leb c d && leb a d) (leb c b)
+        (and-make (leb a b && leb c d) (leb a d)
+        (and-make (leb a b) (leb c d) (le-leb a b (omega arith)) (le-leb c d (omega arith)))
+        (le-leb a d (omega arith)))
+        (le-leb c b (omega arith))))
+
+-- ---- a place held by both
+both : Places → Places → ℕ → ℕ → Bool
+both p q octet bit = holds p octet bit && holds q octet bit
+
+both-sc : (p q : Places) (octet : ℕ) → both p q octet 8 ≡ (within (p .first) (p .last) octet && within (q .first) (q .last) octet)
+unfolding both holds
+both-sc p q octet = refl
+
+both-bit : (p q : Places) (octet bit : ℕ) → eqb bit 8 ≡ false
+    → both p q octet bit ≡ (within (p .from) (p .to) bit && within (q .from) (q .to) bit)
+unfolding both holds
+both-bit p q octet bit e = rw e
+
+inside : (a b n : ℕ) → within a b n ≡ true → (a ≤ n) × (n ≤ b)
+inside a b n t = (leb-true a n (and-left (leb a n) (leb n b) t), leb-true n b (and-right (leb a n) (leb n b) t))
+
+module _ (p q : Places) (fp : Fit p) (fq : Fit q) where
+  bits-meet : meets (p .from) (p .to) (q .from) (q .to) ≡ true → some 80 (λ (octet : ℕ). some 8 (both p q octet)) ≡ true
+  bits-meet t =
+      let n = start (p .from) (q .from) in
+      let common = start-in (p .from) (p .to) (q .from) (q .to) t in
+      let bounds = inside (p .from) (p .to) n (and-left (within (p .from) (p .to) n) (within (q .from) (q .to) n) common) in
+      let seven : n ≤ 7 = omega (arith, fp .ends, bounds .1) in
+      let one : 1 ≤ n = omega (arith, fp .starts, bounds .0) in
+      some-at 80 (λ (octet : ℕ). some 8 (both p q octet)) 1 (omega arith) (omega arith)
+      (some-at 8 (both p q 1) n one (omega arith) (both-bit p q 1 n (ne-eqb n 8 (λ e. omega arith)) ∙ common))
+
+  channel-meets : meets (p .first) (p .last) (q .first) (q .last) ≡ true → some 80 (λ (octet : ℕ). some 8 (both p q octet)) ≡ true
+  channel-meets t =
+      let n = start (p .first) (q .first) in
+      let common = start-in (p .first) (p .last) (q .first) (q .last) t in
+      let bounds = inside (p .first) (p .last) n (and-left (within (p .first) (p .last) n) (within (q .first) (q .last) n) common) in
+      let last : n ≤ 80 = omega (arith, fp .closes, bounds .1) in
+      let one : 1 ≤ n = omega (arith, fp .opens, bounds .0) in
+      some-at 80 (λ (octet : ℕ). some 8 (both p q octet)) n one last
+      (some-at 8 (both p q n) 8 (omega arith) (omega arith) (both-sc p q n ∙ common))
+
+  none-meets : meets (p .from) (p .to) (q .from) (q .to) ≡ false → meets (p .first) (p .last) (q .first) (q .last) ≡ false
+      → some 80 (λ (octet : ℕ). some 8 (both p q octet)) ≡ false
+  none-meets b c =
+      some-none 80 (λ (octet : ℕ). some 8 (both p q octet))
+      (λ octet. some-none 8 (both p q octet) (λ bit. at octet bit (eqb bit 8) refl))
+    where
+      at : (octet bit : ℕ) (s : Bool) → eqb bit 8 ≡ s → both p q octet bit ≡ false
+      at octet bit true e =
+          ap (both p q octet) (eqb-true bit 8 e) ∙ both-sc p q octet ∙ apart (p .first) (p .last) (q .first) (q .last) octet c
+      at octet bit false e = both-bit p q octet bit e ∙ apart (p .from) (p .to) (q .from) (q .to) bit b
+
+  pub clash-is : clash p q ≡ (meets (p .from) (p .to) (q .from) (q .to) || meets (p .first) (p .last) (q .first) (q .last))
+  unfolding clash both
+  clash-is = go (meets (p .from) (p .to) (q .from) (q .to)) (meets (p .first) (p .last) (q .first) (q .last)) refl refl
+    where
+      go : (b c : Bool) → meets (p .from) (p .to) (q .from) (q .to) ≡ b → meets (p .first) (p .last) (q .first) (q .last) ≡ c
+          → some 80 (λ (octet : ℕ). some 8 (both p q octet)) ≡ (b || c)
+      go true c eb ec = bits-meet eb
+      go false true eb ec = channel-meets ec
+      go false false eb ec = none-meets eb ec
+
+-- ---- how many numbers of 1 to n
+pub count-ext : (n : ℕ) (f g : ℕ → ℕ) → ((k : ℕ) → k ≤ n → f k ≡ g k) → count n f ≡ count n g
+unfolding count
+count-ext zero f g h = refl
+count-ext (suc n) f g h = ap₂ _+_ (h (suc n) (omega arith)) (count-ext n f g (λ k l. h k (le-step l)))
+
+pub count-plus : (n : ℕ) (f : ℕ → ℕ) (c : ℕ) → count n (λ (k : ℕ). f k + c) ≡ count n f + n * c
+unfolding count
+count-plus zero f c = rw zero-mul
+count-plus (suc n) f c = omega (arith, count-plus n f c, suc-mul n c)
+
+pub count-within : (n a b : ℕ) → 1 ≤ a → a ≤ b + 1 → count n (λ (k : ℕ). digit (within a b k)) ≡ min n b + 1 - a
+unfolding count
+count-within zero a b h l = omega arith
+count-within (suc n) a b h l = go (leb a (suc n)) (leb (suc n) b) refl refl (count-within n a b h l)
+  where
+    go : (s t : Bool) → leb a (suc n) ≡ s → leb (suc n) b ≡ t → count n (λ (k : ℕ). digit (within a b k)) ≡ min n b + 1 - a
+        → digit (s && t) + count n (λ (k : ℕ). digit (within a b k)) ≡ min (suc n) b + 1 - a
+    go true true es et i = omega (arith, leb-true, leb-false)
+    go true false es et i = omega (arith, leb-true, leb-false)
+    go false t es et i = omega (arith, leb-true, leb-false)
+
+-- the places of octet o are those of its bits 1 to 7, and its SC bit
+row-count : (p : Places) → Fit p → (o : ℕ)
+    → count 8 (λ (bit : ℕ). digit (holds p o bit)) ≡ digit (within (p .first) (p .last) o) + (p .to + 1 - p .from)
+unfolding holds
+row-count p f o =
+    let seven : count 7 (λ (bit : ℕ). digit (holds p o bit)) ≡ p .to + 1 - p .from =
+    count-ext 7 (λ (bit : ℕ). digit (holds p o bit)) (λ (bit : ℕ). digit (within (p .from) (p .to) bit))
+    (λ k l. ap (λ (b : Bool). digit (cond b (within (p .first) (p .last) o) (within (p .from) (p .to) k))) (ne-eqb k 8 (λ e. omega arith)))
+    ∙ count-within 7 (p .from) (p .to) (f .starts) (f .spans)
+    ∙ omega (arith, f .ends) in
+    let whole : count 8 (λ (bit : ℕ). digit (holds p o bit)) ≡ digit (within (p .first) (p .last) o) + count 7 (λ (bit : ℕ). digit (holds p o bit)) = unfold count in refl in
+    whole ∙ ap (λ (n : ℕ). digit (within (p .first) (p .last) o) + n) seven
+
+pub bits-per-frame-is : (p : Places) → Fit p → bitsPerFrame p ≡ (p .to + 1 - p .from) * 80 + (p .last + 1 - p .first)
+unfolding bitsPerFrame
+bits-per-frame-is p f =
+    let c = p .to + 1 - p .from in
+    count-ext 80 (λ (o : ℕ). count 8 (λ (bit : ℕ). digit (holds p o bit))) (λ (o : ℕ). digit (within (p .first) (p .last) o) + c) (λ o l. row-count p f o)
+    ∙ count-plus 80 (λ (o : ℕ). digit (within (p .first) (p .last) o)) c
+    ∙ ap (λ (n : ℕ). n + 80 * c) (count-within 80 (p .first) (p .last) (f .opens) (f .runs))
+    ∙ omega (arith, f .closes)

@@ -1,0 +1,99 @@
+-- Laws of the table of places: each row's ranges lie in a frame, and past 31 no value is listed.
+use mathlib.Core.Path.{_≡_, refl, ap, _∙_}
+use mathlib.Core.Bool.{Bool, true, false, cond, _&&_}
+use mathlib.Core.List.{List, [], _∷_}
+use Prim.Native.Nat.{ℕ, _+_, _≤_, _<_}
+use native.Mathlib.Omega.{arith}
+use lib.Dec.{eqb, leb, ltb}
+use borrow.Author.Tests.{leb-true, ltb-true, ne-eqb}
+use Rattle.bits.proofs.Every.{and-left, and-right}
+use Rattle.modes.specs.Table.{octetBitsTo, octetBitsFrom, scOctets, notListed, audioTable, lsdTable, beside, audioPlaces, lsdPlaces}
+use Rattle.modes.specs.Owners.{heldBy}
+use Rattle.modes.specs.declared.Places.{Places}
+use Rattle.modes.specs.declared.Mode.{Mode}
+use Rattle.modes.specs.declared.Owner.{Owner}
+use Rattle.modes.specs.declared.Owner.the-variants.{Service, Voice, Lsd, Nobody}
+
+-- ---- what all rows have, each looked-up row has
+abbrev all : (ℕ → Places → Bool) → List (ℕ × Places) → Bool
+all test [] = true
+all test (row ∷ rows) = test (row .0) (row .1) && all test rows
+
+pub beside-all : (test : Places → Bool) (rows : List (ℕ × Places)) (other : Places) (v : ℕ)
+    → all (λ (key : ℕ) (p : Places). test p) rows ≡ true → test other ≡ true → test (beside rows other v) ≡ true
+unfolding beside
+beside-all test [] other v t o = o
+beside-all test (row ∷ rows) other v t o =
+    let rest = all (λ (key : ℕ) (p : Places). test p) rows in
+    pick (eqb v (row .0)) (and-left (test (row .1)) rest t) (beside-all test rows other v (and-right (test (row .1)) rest t) o)
+  where
+    pick : (b : Bool) → test (row .1) ≡ true → test (beside rows other v) ≡ true → test (cond b (row .1) (beside rows other v)) ≡ true
+    pick true here there = here
+    pick false here there = there
+
+-- a value past every key is none of the rows'
+beside-past : (rows : List (ℕ × Places)) (other : Places) (v : ℕ)
+    → all (λ (key : ℕ) (p : Places). ltb key 32) rows ≡ true → 32 ≤ v → beside rows other v ≡ other
+unfolding beside
+beside-past [] other v t h = refl
+beside-past (row ∷ rows) other v t h =
+    let rest = all (λ (key : ℕ) (p : Places). ltb key 32) rows in
+    let small : row .0 < 32 = ltb-true (row .0) 32 (and-left (ltb (row .0) 32) rest t) in
+    ap (λ (b : Bool). cond b (row .1) (beside rows other v)) (ne-eqb v (row .0) (λ e. omega arith))
+    ∙ beside-past rows other v (and-right (ltb (row .0) 32) rest t) h
+
+pub audio-past : (v : ℕ) → 32 ≤ v → audioPlaces v ≡ notListed (octetBitsTo 0)
+unfolding audioPlaces audioTable
+audio-past v h = beside-past audioTable (notListed (octetBitsTo 0)) v refl h
+
+pub lsd-past : (v : ℕ) → 32 ≤ v → lsdPlaces v ≡ notListed (octetBitsFrom 8)
+unfolding lsdPlaces lsdTable
+lsd-past v h = beside-past lsdTable (notListed (octetBitsFrom 8)) v refl h
+
+-- ---- both ranges lie in a frame's octets
+pub record Fit (p : Places) : Type 0 where
+  pub starts : 1 ≤ p .from
+  pub spans : p .from ≤ p .to + 1
+  pub ends : p .to ≤ 7
+  pub opens : 1 ≤ p .first
+  pub runs : p .first ≤ p .last + 1
+  pub closes : p .last ≤ 80
+
+abbrev fits : Places → Bool
+fits p = leb 1 (p .from) && (leb (p .from) (p .to + 1) && (leb (p .to) 7 && (leb 1 (p .first) && (leb (p .first) (p .last + 1) && leb (p .last) 80))))
+
+fit : (p : Places) → fits p ≡ true → Fit p
+fit p t =
+    let a = leb 1 (p .from) in
+    let b = leb (p .from) (p .to + 1) in
+    let c = leb (p .to) 7 in
+    let d = leb 1 (p .first) in
+    let e = leb (p .first) (p .last + 1) in
+    let f = leb (p .last) 80 in
+    let t2 = and-right a (b && (c && (d && (e && f)))) t in
+    let t3 = and-right b (c && (d && (e && f))) t2 in
+    let t4 = and-right c (d && (e && f)) t3 in
+    let t5 = and-right d (e && f) t4 in
+    record {
+      starts = leb-true 1 (p .from) (and-left a (b && (c && (d && (e && f)))) t);
+      spans = leb-true (p .from) (p .to + 1) (and-left b (c && (d && (e && f))) t2);
+      ends = leb-true (p .to) 7 (and-left c (d && (e && f)) t3);
+      opens = leb-true 1 (p .first) (and-left d (e && f) t4);
+      runs = leb-true (p .first) (p .last + 1) (and-left e f t5);
+      closes = leb-true (p .last) 80 (and-right e f t5);
+    }
+
+pub audio-fit : (v : ℕ) → Fit (audioPlaces v)
+unfolding audioPlaces audioTable
+audio-fit v = fit (audioPlaces v) (beside-all fits audioTable (notListed (octetBitsTo 0)) v refl refl)
+
+pub lsd-fit : (v : ℕ) → Fit (lsdPlaces v)
+unfolding lsdPlaces lsdTable
+lsd-fit v = fit (lsdPlaces v) (beside-all fits lsdTable (notListed (octetBitsFrom 8)) v refl refl)
+
+pub held-fit : (m : Mode) (o : Owner) → Fit (heldBy m o)
+unfolding heldBy
+held-fit m Service = fit (scOctets 1 16) refl
+held-fit m Voice = audio-fit (m .audio)
+held-fit m Lsd = lsd-fit (m .lsd)
+held-fit m Nobody = fit (octetBitsFrom 8) refl

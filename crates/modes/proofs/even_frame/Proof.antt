@@ -1,0 +1,24 @@
+-- `modes::even_frame` meets its contract: block 0, which is none, is taken as block 1.
+use mathlib.Core.Path.{refl}
+use Prim.Native.Nat.{_-_}
+use Rattle.modes.specs.Numbers.{evenFrame}
+use borrow.Author.Needs.{needs}
+use Rattle.modes.proofs.even_frame.Statement.{statement}
+use Rattle.modes.proofs.even_frame.Tie as tie
+
+returns : tie.Need-returns
+unfolding evenFrame
+returns c = rw (c .if1 .taken)
+
+sub-t4 : tie.Need-sub-t4
+sub-t4 c = search needs
+
+mul-t6 : tie.Need-mul-t6
+mul-t6 c = search needs
+
+returns-2 : tie.Need-returns-2
+unfolding evenFrame
+returns-2 c = refl
+
+pub even-frame-spec : {M : Type 1} → statement M
+even-frame-spec = tie.close (tie.spec returns sub-t4 mul-t6 returns-2)

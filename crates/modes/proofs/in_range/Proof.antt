@@ -1,0 +1,22 @@
+-- `modes::in_range` meets its contract: code and definition are one expression.
+use Rattle.modes.specs.Commands.{inRange}
+use borrow.Author.Needs.{needs}
+use Rattle.modes.proofs.in_range.Statement.{statement}
+use Rattle.modes.proofs.in_range.Tie as tie
+
+audio-places-requires : tie.Need-audio-places-requires
+audio-places-requires c κs = search needs
+
+lsd-places-requires : tie.Need-lsd-places-requires
+lsd-places-requires c κs = search needs
+
+overlap-requires : tie.Need-overlap-requires
+overlap-requires c κs = search needs
+
+returns : tie.Need-returns
+unfolding inRange
+returns c = rw (c .overlap .ensures, c .before .before .before .before .lsd-places .ensures, c .before .before .before .before .before .audio-places .ensures)
+
+pub in-range-spec : {M : Type 1} → statement M
+in-range-spec =
+    tie.close (tie.spec audio-places-requires lsd-places-requires overlap-requires returns)

@@ -1,0 +1,21 @@
+-- `modes::odd_frame` meets its contract: one more than the even frame.
+use Prim.Native.Nat.{_-_}
+use native.Mathlib.Omega.{arith}
+use Rattle.modes.specs.Numbers.{evenFrame, oddFrame}
+use borrow.Author.Needs.{needs}
+use Rattle.modes.proofs.odd_frame.Statement.{statement}
+use Rattle.modes.proofs.odd_frame.Tie as tie
+
+even-frame-requires : tie.Need-even-frame-requires
+even-frame-requires c κs = search needs
+
+add-t3 : tie.Need-add-t3
+unfolding evenFrame
+add-t3 c = rw (c .before .even-frame .ensures) (omega arith)
+
+returns : tie.Need-returns
+unfolding evenFrame oddFrame
+returns c = rw (c .before .even-frame .ensures)
+
+pub odd-frame-spec : {M : Type 1} → statement M
+odd-frame-spec = tie.close (tie.spec even-frame-requires add-t3 returns)

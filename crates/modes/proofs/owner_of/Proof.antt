@@ -1,0 +1,81 @@
+-- `modes::owner_of` meets its contract: the first of the three that holds the place.
+use mathlib.Core.Path.{_≡_, sym, ap, _∙_}
+use mathlib.Core.Bool.{Bool}
+use Prim.Native.Nat.{ℕ, _-_}
+use Rattle.modes.specs.Owners.{holds, ownerOf}
+use Rattle.modes.specs.declared.Places.{Places}
+use borrow.Author.Needs.{needs}
+use Rattle.modes.proofs.owner_of.Statement.{statement}
+use Rattle.modes.proofs.owner_of.Tie as tie
+
+-- what a test of a place has shown of the definition
+shown : (p q : Places) (octet bit : ℕ) (r b : Bool) → p ≡ q → r ≡ holds p octet bit → r ≡ b → holds q octet bit ≡ b
+shown p q octet bit r b e h t = sym (ap (λ (x : Places). holds x octet bit) e) ∙ sym h ∙ t
+
+held-by-requires : tie.Need-held-by-requires
+held-by-requires c κs = search needs
+
+is-held-requires : tie.Need-is-held-requires
+is-held-requires c κs = search needs
+
+returns : tie.Need-returns
+unfolding ownerOf
+returns c = rw (shown _ _ _ _ _ _ (c .before .before .held-by .ensures) (c .before .is-held .ensures) (c .if1 .taken))
+
+held-by-requires-2 : tie.Need-held-by-requires-2
+held-by-requires-2 c κs = search needs
+
+is-held-requires-2 : tie.Need-is-held-requires-2
+is-held-requires-2 c κs = search needs
+
+returns-2 : tie.Need-returns-2
+unfolding ownerOf
+returns-2 c =
+    let first = c .before .before .before in
+    rw (
+      shown _ _ _ _ _ _ (first .before .before .held-by .ensures) (first .before .is-held .ensures) (first .if1 .left),
+      shown _ _ _ _ _ _ (c .before .before .held-by2 .ensures) (c .before .is-held2 .ensures) (c .if2 .taken),
+    )
+
+held-by-requires-3 : tie.Need-held-by-requires-3
+held-by-requires-3 c κs = search needs
+
+is-held-requires-3 : tie.Need-is-held-requires-3
+is-held-requires-3 c κs = search needs
+
+returns-3 : tie.Need-returns-3
+unfolding ownerOf
+returns-3 c =
+    let second = c .before .before .before in
+    let first = second .before .before .before in
+    rw (
+      shown _ _ _ _ _ _ (first .before .before .held-by .ensures) (first .before .is-held .ensures) (first .if1 .left),
+      shown _ _ _ _ _ _ (second .before .before .held-by2 .ensures) (second .before .is-held2 .ensures) (second .if2 .left),
+      shown _ _ _ _ _ _ (c .before .before .held-by3 .ensures) (c .before .is-held3 .ensures) (c .if3 .taken),
+    )
+
+returns-4 : tie.Need-returns-4
+unfolding ownerOf
+returns-4 c =
+    let second = c .before .before .before in
+    let first = second .before .before .before in
+    rw (
+      shown _ _ _ _ _ _ (first .before .before .held-by .ensures) (first .before .is-held .ensures) (first .if1 .left),
+      shown _ _ _ _ _ _ (second .before .before .held-by2 .ensures) (second .before .is-held2 .ensures) (second .if2 .left),
+      shown _ _ _ _ _ _ (c .before .before .held-by3 .ensures) (c .before .is-held3 .ensures) (c .if3 .left),
+    )
+
+pub owner-of-spec : {M : Type 1} → statement M
+owner-of-spec =
+    tie.close
+    (tie.spec
+    held-by-requires
+    is-held-requires
+    returns
+    held-by-requires-2
+    is-held-requires-2
+    returns-2
+    held-by-requires-3
+    is-held-requires-3
+    returns-3
+    returns-4)
