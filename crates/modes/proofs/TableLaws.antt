@@ -1,13 +1,13 @@
 -- Laws of the table of places: each row's ranges lie in a frame, and past 31 no value is listed.
-use mathlib.Core.Path.{_≡_, refl, ap, _∙_}
-use mathlib.Core.Bool.{Bool, true, false, cond, _&&_}
+use mathlib.Core.Path.{_≡_, refl, sym, ap, _∙_}
+use mathlib.Core.Bool.{Bool, true, false, not, xor, cond, _&&_}
 use mathlib.Core.List.{List, [], _∷_}
 use Prim.Native.Nat.{ℕ, _+_, _≤_, _<_}
 use native.Mathlib.Omega.{arith}
 use lib.Dec.{eqb, leb, ltb}
-use borrow.Author.Tests.{leb-true, ltb-true, ne-eqb}
-use Rattle.bits.proofs.Every.{and-left, and-right}
-use Rattle.modes.specs.Table.{octetBitsTo, octetBitsFrom, scOctets, notListed, audioTable, lsdTable, beside, audioPlaces, lsdPlaces}
+use borrow.Author.Tests.{leb-true, ltb-true, eqb-true, ne-eqb, lt-ltb, le-ltb}
+use Rattle.bits.proofs.Every.{and-left, and-right, everyBelow, below}
+use Rattle.modes.specs.Table.{bitsAndSc, octetBitsTo, octetBitsFrom, scOctets, notListed, audioTable, lsdTable, beside, audioPlaces, lsdPlaces}
 use Rattle.modes.specs.Owners.{heldBy}
 use Rattle.modes.specs.declared.Places.{Places}
 use Rattle.modes.specs.declared.Mode.{Mode}
@@ -32,23 +32,97 @@ beside-all test (row ∷ rows) other v t o =
     pick false here there = there
 
 -- a value past every key is none of the rows'
-beside-past : (rows : List (ℕ × Places)) (other : Places) (v : ℕ)
-    → all (λ (key : ℕ) (p : Places). ltb key 32) rows ≡ true → 32 ≤ v → beside rows other v ≡ other
+beside-past : (n : ℕ) (rows : List (ℕ × Places)) (other : Places) (v : ℕ)
+    → all (λ (key : ℕ) (p : Places). ltb key n) rows ≡ true → n ≤ v → beside rows other v ≡ other
 unfolding beside
-beside-past [] other v t h = refl
-beside-past (row ∷ rows) other v t h =
-    let rest = all (λ (key : ℕ) (p : Places). ltb key 32) rows in
-    let small : row .0 < 32 = ltb-true (row .0) 32 (and-left (ltb (row .0) 32) rest t) in
+beside-past n [] other v t h = refl
+beside-past n (row ∷ rows) other v t h =
+    let rest = all (λ (key : ℕ) (p : Places). ltb key n) rows in
+    let small : row .0 < n = ltb-true (row .0) n (and-left (ltb (row .0) n) rest t) in
     ap (λ (b : Bool). cond b (row .1) (beside rows other v)) (ne-eqb v (row .0) (λ e. omega arith))
-    ∙ beside-past rows other v (and-right (ltb (row .0) 32) rest t) h
+    ∙ beside-past n rows other v (and-right (ltb (row .0) n) rest t) h
 
 pub audio-past : (v : ℕ) → 32 ≤ v → audioPlaces v ≡ notListed (octetBitsTo 0)
 unfolding audioPlaces audioTable
-audio-past v h = beside-past audioTable (notListed (octetBitsTo 0)) v refl h
+audio-past v h = beside-past 32 audioTable (notListed (octetBitsTo 0)) v refl h
 
-pub lsd-past : (v : ℕ) → 32 ≤ v → lsdPlaces v ≡ notListed (octetBitsFrom 8)
+pub lsd-past : (v : ℕ) → 15 ≤ v → lsdPlaces v ≡ notListed (octetBitsFrom 8)
 unfolding lsdPlaces lsdTable
-lsd-past v h = beside-past lsdTable (notListed (octetBitsFrom 8)) v refl h
+lsd-past v h = beside-past 15 lsdTable (notListed (octetBitsFrom 8)) v refl h
+
+-- ---- the source's two tables
+sameBool : Bool → Bool → Bool
+sameBool a b = not (xor a b)
+
+same-bool : (a b : Bool) → sameBool a b ≡ true → a ≡ b
+unfolding sameBool xor
+same-bool true true e = refl
+same-bool true false e = sym e
+same-bool false true e = e
+same-bool false false e = refl
+
+same : Places → Places → Bool
+same p q = sameBool (p .listed) (q .listed) && (eqb (p .from) (q .from) && (eqb (p .to) (q .to) && (eqb (p .first) (q .first) && eqb (p .last) (q .last))))
+
+same-places : (p q : Places) → same p q ≡ true → p ≡ q
+unfolding same
+same-places p q t =
+    let a = sameBool (p .listed) (q .listed) in
+    let b = eqb (p .from) (q .from) in
+    let c = eqb (p .to) (q .to) in
+    let d = eqb (p .first) (q .first) in
+    let e = eqb (p .last) (q .last) in
+    let t2 = and-right a (b && (c && (d && e))) t in
+    let t3 = and-right b (c && (d && e)) t2 in
+    let t4 = and-right c (d && e) t3 in
+    let ea = same-bool (p .listed) (q .listed) (and-left a (b && (c && (d && e))) t) in
+    let eb = eqb-true (p .from) (q .from) (and-left b (c && (d && e)) t2) in
+    let ec = eqb-true (p .to) (q .to) (and-left c (d && e) t3) in
+    let ed = eqb-true (p .first) (q .first) (and-left d e t4) in
+    let ee = eqb-true (p .last) (q .last) (and-right d e t4) in
+    λ i. record { listed = ea i; from = eb i; to = ec i; first = ed i; last = ee i }
+
+-- an entry of the table of audio: w, or 8 where the value is not listed
+unfoldable pub audioEntry : ℕ → ℕ
+audioEntry v = cond ((audioPlaces v) .listed) ((audioPlaces v) .to) 8
+
+abbrev audioSaid : ℕ → Places
+audioSaid w = cond (ltb w 8) (octetBitsTo w) (notListed (octetBitsTo 0))
+
+audioRight : ℕ → Bool
+audioRight v = same (audioSaid (audioEntry v)) (audioPlaces v)
+
+all-audio : everyBelow 32 audioRight ≡ true
+unfolding audioRight same sameBool xor audioEntry audioPlaces audioTable beside
+all-audio = refl
+
+audio-said : (v : ℕ) → v < 32 → audioSaid (audioEntry v) ≡ audioPlaces v
+unfolding audioRight
+audio-said v h = same-places (audioSaid (audioEntry v)) (audioPlaces v) (below 32 audioRight all-audio v h)
+
+pub audio-listed : (v w : ℕ) → v < 32 → w ≡ audioEntry v → w < 8 → octetBitsTo w ≡ audioPlaces v
+audio-listed v w h e l =
+    ap (λ (b : Bool). cond b (octetBitsTo w) (notListed (octetBitsTo 0))) (sym (lt-ltb w 8 l)) ∙ ap audioSaid e ∙ audio-said v h
+
+pub audio-not-listed : (v w : ℕ) → v < 32 → w ≡ audioEntry v → 8 ≤ w → notListed (octetBitsTo 0) ≡ audioPlaces v
+audio-not-listed v w h e l =
+    ap (λ (b : Bool). cond b (octetBitsTo w) (notListed (octetBitsTo 0))) (sym (le-ltb w 8 l)) ∙ ap audioSaid e ∙ audio-said v h
+
+-- an entry of the table of data: a, f and l
+unfoldable pub lsdEntry : ℕ → List ℕ
+lsdEntry v = (lsdPlaces v) .from ∷ (lsdPlaces v) .first ∷ (lsdPlaces v) .last ∷ []
+
+lsdRight : ℕ → Bool
+lsdRight v = same (bitsAndSc ((lsdPlaces v) .from) 7 ((lsdPlaces v) .first) ((lsdPlaces v) .last)) (lsdPlaces v)
+
+all-lsd : everyBelow 15 lsdRight ≡ true
+unfolding lsdRight same sameBool xor lsdPlaces lsdTable beside
+all-lsd = refl
+
+pub lsd-said : (v : ℕ) → v < 15 → bitsAndSc ((lsdPlaces v) .from) 7 ((lsdPlaces v) .first) ((lsdPlaces v) .last) ≡ lsdPlaces v
+unfolding lsdRight
+lsd-said v h =
+    same-places (bitsAndSc ((lsdPlaces v) .from) 7 ((lsdPlaces v) .first) ((lsdPlaces v) .last)) (lsdPlaces v) (below 15 lsdRight all-lsd v h)
 
 -- ---- both ranges lie in a frame's octets
 pub record Fit (p : Places) : Type 0 where

@@ -1,8 +1,8 @@
 -- Document 01, 'Codes and bit places': the bit places that each audio and data value holds.
 use mathlib.Core.Bool.{true, false, cond}
 use mathlib.Core.List.{List, [], _∷_}
-use Prim.Native.Nat.{ℕ, _-_}
-use lib.Dec.{eqb, ltb}
+use Prim.Native.Nat.{ℕ}
+use lib.Dec.{eqb}
 use Rattle.modes.specs.declared.Places.{Places}
 
 -- octet bits `from` to `to` of every octet, and the SC bit of octets `first` to `last`; a range that ends before it starts is empty
@@ -62,7 +62,3 @@ audioPlaces v = beside audioTable (notListed (octetBitsTo 0)) v
 
 unfoldable pub lsdPlaces : ℕ → Places
 lsdPlaces v = beside lsdTable (notListed (octetBitsFrom 8)) v
-
--- both in one: audio [v] in row v, data [v] in row 32 + v
-unfoldable pub placesAt : ℕ → Places
-placesAt row = cond (ltb row 32) (audioPlaces row) (lsdPlaces (row - 32))

@@ -1,10 +1,9 @@
 // Codes, the bit places that they hold, and modes (document 01, 'Codes and bit places', 'Slots' and 'Sending a block').
 ghost use mathlib.Core.Path.{_≡_};
 ghost use mathlib.Core.Bool.{_&&_};
-ghost use Prim.Native.Nat.{_<_};
 ghost use lib.Dec.{leb, eqb};
 ghost use Rattle.modes.specs.Numbers.{evenFrame, oddFrame, following};
-ghost use Rattle.modes.specs.Table.{placesAt, audioPlaces, lsdPlaces};
+ghost use Rattle.modes.specs.Table.{audioPlaces, lsdPlaces};
 ghost use Rattle.modes.specs.Codes.{attribute, value, audioAttribute, lsdAttribute, listedAudio, listedLsd};
 ghost use Rattle.modes.specs.Owners.{holds, heldBy, ownerOf, overlaps, bitsPerFrame};
 ghost use Rattle.modes.specs.Carried.{carried, senderCarries, readerCarries, openingOf};
@@ -55,96 +54,76 @@ pub enum Command {
     NoEffect,
 }
 
-// From audio and data value to the bit places they hold: audio [v] in row v, data [v] in row 32 + v.
-// A row is 1 where the value is listed, and then from, to, first and last.
-const PLACES: [[u8; 5]; 64] = [
-    [1, 1, 0, 17, 16],
-    [0, 1, 0, 17, 16],
-    [0, 1, 0, 17, 16],
-    [0, 1, 0, 17, 16],
-    [0, 1, 0, 17, 16],
-    [0, 1, 0, 17, 16],
-    [0, 1, 0, 17, 16],
-    [0, 1, 0, 17, 16],
-    [0, 1, 0, 17, 16],
-    [0, 1, 0, 17, 16],
-    [0, 1, 0, 17, 16],
-    [1, 1, 1, 17, 16],
-    [0, 1, 0, 17, 16],
-    [0, 1, 0, 17, 16],
-    [0, 1, 0, 17, 16],
-    [0, 1, 0, 17, 16],
-    [0, 1, 0, 17, 16],
-    [0, 1, 0, 17, 16],
-    [1, 1, 7, 17, 16],
-    [1, 1, 7, 17, 16],
-    [1, 1, 6, 17, 16],
-    [1, 1, 6, 17, 16],
-    [0, 1, 0, 17, 16],
-    [0, 1, 0, 17, 16],
-    [1, 1, 7, 17, 16],
-    [1, 1, 6, 17, 16],
-    [0, 1, 0, 17, 16],
-    [1, 1, 4, 17, 16],
-    [1, 1, 3, 17, 16],
-    [1, 1, 2, 17, 16],
-    [0, 1, 0, 17, 16],
-    [1, 1, 0, 17, 16],
-    [1, 8, 7, 17, 16],
-    [1, 8, 7, 38, 40],
-    [1, 8, 7, 29, 40],
-    [1, 8, 7, 33, 80],
-    [1, 8, 7, 17, 80],
-    [1, 7, 7, 17, 16],
-    [1, 7, 7, 25, 40],
-    [1, 7, 7, 17, 80],
-    [1, 6, 7, 17, 16],
-    [1, 5, 7, 17, 16],
-    [1, 4, 7, 17, 16],
-    [1, 3, 7, 17, 16],
-    [1, 2, 7, 17, 16],
-    [1, 1, 7, 17, 16],
-    [1, 1, 7, 17, 80],
-    [0, 8, 7, 17, 16],
-    [0, 8, 7, 17, 16],
-    [0, 8, 7, 17, 16],
-    [0, 8, 7, 17, 16],
-    [0, 8, 7, 17, 16],
-    [0, 8, 7, 17, 16],
-    [0, 8, 7, 17, 16],
-    [0, 8, 7, 17, 16],
-    [0, 8, 7, 17, 16],
-    [0, 8, 7, 17, 16],
-    [0, 8, 7, 17, 16],
-    [0, 8, 7, 17, 16],
-    [0, 8, 7, 17, 16],
-    [0, 8, 7, 17, 16],
-    [0, 8, 7, 17, 16],
-    [0, 8, 7, 17, 16],
-    [0, 8, 7, 17, 16],
+// From audio value to the octet bits it holds, 1 to w. 0 is none of them, and 8 says that the value is not listed.
+const AUDIO: [u8; 32] = [
+    0,
+    8,
+    8,
+    8,
+    8,
+    8,
+    8,
+    8,
+    8,
+    8,
+    8,
+    1,
+    8,
+    8,
+    8,
+    8,
+    8,
+    8,
+    7,
+    7,
+    6,
+    6,
+    8,
+    8,
+    7,
+    6,
+    8,
+    4,
+    3,
+    2,
+    8,
+    0,
 ];
 
-// A row of the table.
-fn places_at(row: u8) -> Places
-    requires { ⌜ row < 64 ⌝ }
-    ensures { λ r. ⌜ r ≡ placesAt row ⌝ }
-{
-    let held = PLACES[row as usize];
-    Places {
-        listed: held[0] == 1,
-        from: held[1],
-        to: held[2],
-        first: held[3],
-        last: held[4],
-    }
-}
+// From data value to what it holds: octet bits a to 7, and SC octets f to l. From 8 to 7, and from 17 to 16, is none.
+const LSD: [[u8; 3]; 15] = [
+    [8, 17, 16],
+    [8, 38, 40],
+    [8, 29, 40],
+    [8, 33, 80],
+    [8, 17, 80],
+    [7, 17, 16],
+    [7, 25, 40],
+    [7, 17, 80],
+    [6, 17, 16],
+    [5, 17, 16],
+    [4, 17, 16],
+    [3, 17, 16],
+    [2, 17, 16],
+    [1, 17, 16],
+    [1, 17, 80],
+];
 
 // The places of audio [v].
 fn audio_places(v: u8) -> Places
     ensures { λ r. ⌜ r ≡ audioPlaces v ⌝ }
 {
     if v < 32 {
-        return places_at(v);
+        let w = AUDIO[v as usize];
+        if w < 8 {
+            return Places {
+                listed: true,
+                from: 1,
+                to: w,
+                first: 17,
+                last: 16,
+            };
+        }
     }
     Places {
         listed: false,
@@ -159,8 +138,15 @@ fn audio_places(v: u8) -> Places
 fn lsd_places(v: u8) -> Places
     ensures { λ r. ⌜ r ≡ lsdPlaces v ⌝ }
 {
-    if v < 32 {
-        return places_at(32 + v);
+    if v < 15 {
+        let held = LSD[v as usize];
+        return Places {
+            listed: true,
+            from: held[0],
+            to: 7,
+            first: held[1],
+            last: held[2],
+        };
     }
     Places {
         listed: false,

@@ -1,22 +1,32 @@
--- `modes::audio_places` meets its contract: the table has the listed values, and no other is below 32.
-use mathlib.Core.Path.{sym, _∙_}
-use Prim.Native.Nat.{_-_}
-use borrow.Author.Tests.{lt-ltb}
-use Rattle.modes.specs.Table.{placesAt}
-use Rattle.modes.proofs.TableLaws.{audio-past}
+-- `modes::audio_places` meets its contract: the source's table is that of the definition's entries, which antt computes.
+use mathlib.Core.Path.{sym}
+use Prim.Native.Nat.{_-_, _<_}
+use Rattle.bits.proofs.Table.{entry}
+use Rattle.modes.specs.Table.{audioTable, beside, audioPlaces}
+use Rattle.modes.proofs.TableLaws.{audio-past, audioEntry, audio-listed, audio-not-listed}
 use borrow.Author.Needs.{needs}
 use Rattle.modes.proofs.audio_places.Statement.{statement}
 use Rattle.modes.proofs.audio_places.Tie as tie
 
-places-at-requires : tie.Need-places-at-requires
-places-at-requires c κs = search needs
+array-read-w : tie.Need-array-read-w
+array-read-w c = search needs
 
 returns : tie.Need-returns
-unfolding placesAt
-returns c = c .places-at .ensures ∙ rw (lt-ltb _ _ (c .before .if1 .taken))
+unfolding audioEntry audioPlaces audioTable beside
+returns c =
+    let v = c .before .before .args .v in
+    let h : v < 32 = c .before .if1 .taken in
+    audio-listed v _ h (entry 32 audioEntry 0 v h) (c .if2 .taken)
 
 returns-2 : tie.Need-returns-2
-returns-2 c = sym (audio-past _ (c .if1 .left))
+unfolding audioEntry audioPlaces audioTable beside
+returns-2 c =
+    let v = c .before .before .args .v in
+    let h : v < 32 = c .before .if1 .taken in
+    audio-not-listed v _ h (entry 32 audioEntry 0 v h) (c .if2 .left)
+
+returns-3 : tie.Need-returns-3
+returns-3 c = sym (audio-past _ (c .if1 .left))
 
 pub audio-places-spec : {M : Type 1} → statement M
-audio-places-spec = tie.close (tie.spec places-at-requires returns returns-2)
+audio-places-spec = tie.close (tie.spec array-read-w returns returns-2 returns-3)

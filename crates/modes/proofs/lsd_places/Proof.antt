@@ -1,32 +1,48 @@
--- `modes::lsd_places` meets its contract: the table has the listed values, and no other is below 32.
-use mathlib.Core.Path.{_≡_, sym, ap, _∙_}
-use Prim.Native.Nat.{_+_, _-_}
-use native.Mathlib.Omega.{arith}
-use borrow.Author.Tests.{le-ltb}
-use lib.Dec.{ltb}
-use mathlib.Core.Bool.{false}
-use Rattle.modes.specs.Table.{lsdPlaces, placesAt}
-use Rattle.modes.proofs.TableLaws.{lsd-past}
+-- `modes::lsd_places` meets its contract: the source's table is that of the definition's entries, which antt computes.
+use mathlib.Core.Path.{sym, ap, _∙_}
+use mathlib.Core.List.{List, []}
+use Prim.Native.Nat.{ℕ, _-_, _<_}
+use lib.ListN.{getD}
+use Rattle.bits.proofs.Table.{entry}
+use Rattle.modes.specs.Table.{lsdTable, beside, bitsAndSc, lsdPlaces}
+use Rattle.modes.proofs.TableLaws.{lsd-past, lsdEntry, lsd-said}
 use borrow.Author.Needs.{needs}
 use Rattle.modes.proofs.lsd_places.Statement.{statement}
 use Rattle.modes.proofs.lsd_places.Tie as tie
 
-add-places-at : tie.Need-add-places-at
-add-places-at c = search needs
+mul-held : tie.Need-mul-held
+mul-held c = search needs
 
-places-at-requires : tie.Need-places-at-requires
-places-at-requires c κs = search needs
+array-copy-out-held : tie.Need-array-copy-out-held
+array-copy-out-held c = search needs
+
+array-read-t27 : tie.Need-array-read-t27
+array-read-t27 c = search needs
+
+array-read-t30 : tie.Need-array-read-t30
+array-read-t30 c = search needs
+
+array-read-t33 : tie.Need-array-read-t33
+array-read-t33 c = search needs
 
 returns : tie.Need-returns
-unfolding placesAt
+unfolding lsdEntry lsdPlaces lsdTable beside
 returns c =
     let v = c .before .before .args .v in
-    let past : ltb (32 + v) 32 ≡ false = le-ltb (32 + v) 32 (omega arith) in
-    let back : 32 + v - 32 ≡ v = omega arith in
-    c .places-at .ensures ∙ rw past (ap lsdPlaces back)
+    let h : v < 15 = c .before .if1 .taken in
+    ap (λ (row : List ℕ). bitsAndSc (getD row 0 0) 7 (getD row 1 0) (getD row 2 0)) (entry 15 lsdEntry [] v h) ∙ lsd-said v h
 
 returns-2 : tie.Need-returns-2
 returns-2 c = sym (lsd-past _ (c .if1 .left))
 
 pub lsd-places-spec : {M : Type 1} → statement M
-lsd-places-spec = tie.close (tie.spec add-places-at places-at-requires returns returns-2)
+lsd-places-spec =
+    tie.close
+    (tie.spec
+    mul-held
+    array-copy-out-held
+    array-read-t27
+    array-read-t30
+    array-read-t33
+    returns
+    returns-2)
