@@ -1,0 +1,74 @@
+//! A plain model of document 01 as a program: vectors, sending, listing.
+
+mod commands;
+
+use std::process::ExitCode;
+
+use commands::Options;
+
+const HELP: &str = "\
+A plain model of document 01: one framed 64 kbit/s channel, its BAS words and its CRC-4.
+
+model vectors [KIND ...] [--seed N] [--count N]
+    Prints cases with their expected outcomes: first the corner cases by decision id, then N random ones
+    of each kind (50), the same ones for the same seed (1). Kinds: sender, reader, search, walk, listing,
+    preset, bas, crc, service; all of them if none is given. The head of the output explains its form.
+
+model send [--offer LIST] [--script FILE] [--data FILE] [--preset HHHH] < VOICE > RECORDING
+    Frames one block per call. A call is HH, HH:FLAGS, HH*N or HH:FLAGS*N: HH is the offered code in hex,
+    FLAGS are letters out of m (mute), a, e, t, and N repeats the call. LIST parts calls by commas; a FILE
+    of a script by commas, spaces or new lines, and # begins a comment. Both may be given several times.
+    Voice comes from standard input: each unmuted block takes the 20w octets that its audio in force needs
+    (w bits of each octet), so none while audio is off; a muted block takes none. Data comes from --data in
+    the same way, as many octets as hold twice the bits per frame. Missing octets are zeros.
+    --preset begins with a preset instead of a fresh state.
+    Standard error tells what became of each call: sent, held (another word went; offer the code again) or
+    refused with its number (no block).
+
+model list < RECORDING
+    Prints 01's listing of standard input.
+
+model read < RECORDING
+    Prints each step of a walk from the first place found: the answer, the octets of voice and data that
+    count, and the reader's state.
+
+model --help
+    Prints this.
+";
+
+fn main() -> ExitCode {
+    match run(std::env::args_os().skip(1).collect()) {
+        Ok(()) => ExitCode::SUCCESS,
+        Err(message) => {
+            eprintln!("model: {message}\nmodel --help explains the commands.");
+            ExitCode::from(2)
+        }
+    }
+}
+
+fn run(arguments: Vec<std::ffi::OsString>) -> Result<(), String> {
+    let mut words = Vec::new();
+    for argument in arguments {
+        words.push(argument.into_string().map_err(|a| format!("argument {a:?} is not text"))?);
+    }
+    if words.iter().any(|word| word == "--help" || word == "-h" || word == "help") {
+        return commands::written(print_help());
+    }
+    if words.is_empty() {
+        return Err("no command".to_string());
+    }
+    let command = words.remove(0);
+    let options = Options::new(words);
+    match command.as_str() {
+        "vectors" => commands::vectors::run(options),
+        "send" => commands::send::run(options),
+        "list" => commands::list::run(options),
+        "read" => commands::read::run(options),
+        other => Err(format!("unknown command \"{other}\"")),
+    }
+}
+
+fn print_help() -> std::io::Result<()> {
+    use std::io::Write;
+    std::io::stdout().write_all(HELP.as_bytes())
+}

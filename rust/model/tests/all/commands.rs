@@ -1,0 +1,138 @@
+//! The program as a person calls it.
+
+use std::io::Write;
+use std::process::{Command, Output, Stdio};
+
+use model::vectors::forge::{idle, spoil};
+
+fn run(arguments: &[&str], input: &[u8]) -> Output {
+    let mut child = Command::new(env!("CARGO_BIN_EXE_model"))
+        .args(arguments)
+        .stdin(Stdio::piped())
+        .stdout(Stdio::piped())
+        .stderr(Stdio::piped())
+        .spawn()
+        .expect("the program starts");
+    let mut stdin = child.stdin.take().expect("a pipe");
+    // A program that needs no input may be gone by now.
+    let _ = stdin.write_all(input);
+    drop(stdin);
+    child.wait_with_output().expect("the program ends")
+}
+
+fn text(octets: &[u8]) -> String {
+    String::from_utf8_lossy(octets).to_string()
+}
+
+#[test]
+fn list_prints_01s_sample() {
+    let output = run(&["list"], &idle(2)[..168]);
+    assert!(output.status.success());
+    assert_eq!(text(&output.stdout), "found 0\n0 waiting none --\nleft 8\n");
+    assert_eq!(text(&run(&["list"], &[]).stdout), "none 9\n");
+    assert_eq!(text(&run(&["list"], &vec![0; 70_000]).stdout), "none 9\n");
+}
+
+#[test]
+fn send_frames_voice_and_reports() {
+    let voice: Vec<u8> = (0..=255).collect();
+    let output = run(&["send", "--offer", "80*6,18,80,1f:m,F9,1F:aet"], &voice);
+    assert!(output.status.success());
+    let reports = text(&output.stderr);
+    for report in
+        ["call 7: 18 sent in block 7", "call 9: 1F held, 1F went in block 1", "call 10: F9 held, 18 went in block 2"]
+    {
+        assert!(reports.contains(report), "{reports}");
+    }
+    assert_eq!(output.stdout.len(), 11 * 160);
+    let read = text(&run(&["read"], &output.stdout).stdout);
+    let sent: String = (0..140).map(|octet| format!("{octet:02X}")).collect();
+    assert!(read.contains(&format!("voice {sent}\n")), "{read}");
+    assert!(read.contains("voice FF*140\n"), "the muted block: {read}");
+}
+
+#[test]
+fn send_reports_refusals_and_leaves_them_out() {
+    let output = run(&["send", "--offer", "41,80,14", "--offer", "68"], &[]);
+    assert!(output.status.success());
+    assert_eq!(output.stdout.len(), 2 * 160);
+    let reports = text(&output.stderr);
+    assert!(reports.contains("call 1: 41 refused 5") && reports.contains("call 4: 68 refused 8"), "{reports}");
+}
+
+#[test]
+fn send_takes_scripts_data_and_presets() {
+    let folder = std::env::temp_dir();
+    let name = |part: &str| folder.join(format!("model-test-{}-{part}", std::process::id()));
+    let (script, data) = (name("script"), name("data"));
+    std::fs::write(&script, "80*6 # six empty blocks\n80, 65\n80*2\n").expect("a script");
+    std::fs::write(&data, (100..140).collect::<Vec<u8>>()).expect("data");
+    let path = |path: &std::path::Path| path.to_string_lossy().to_string();
+    let output = run(&["send", "--preset", "A140", "--script", &path(&script), "--data", &path(&data)], &[]);
+    std::fs::remove_file(script).expect("the script goes");
+    std::fs::remove_file(data).expect("the data goes");
+    let reports = text(&output.stderr);
+    assert!(reports.contains("offer 65") && reports.contains("call 1: 80 held, 14 went in block 1"), "{reports}");
+    let read = text(&run(&["read"], &output.stdout).stdout);
+    let octets: String = (100..120).map(|octet| format!("{octet:02X}")).collect();
+    assert!(read.contains(&format!("data {octets}\n")), "{read}");
+}
+
+#[test]
+fn read_goes_on_after_a_loss() {
+    let mut recording = idle(4);
+    for block in 0..3 {
+        spoil(&mut recording, block * 160);
+    }
+    recording.extend(idle(2));
+    let whole = [idle(1), recording].concat();
+    let read = text(&run(&["read"], &whole).stdout);
+    assert!(read.contains("block lost none not_read\n") && read.contains("found 640\n"), "{read}");
+    assert!(read.ends_with("left 0\n"));
+}
+
+#[test]
+fn vectors_are_printed() {
+    let output = run(&["vectors", "preset", "--seed", "5", "--count", "2"], &[]);
+    let printed = text(&output.stdout);
+    assert!(printed.contains("# case P2") && printed.contains("# random 2\n"));
+    assert!(!printed.contains("# random 3") && !printed.contains("kind sender"));
+    let all = text(&run(&["vectors", "--count", "0"], &[]).stdout);
+    for kind in ["sender", "reader", "search", "walk", "listing", "preset", "bas", "crc", "service"] {
+        assert!(all.contains(&format!("\nkind {kind}\n")), "{kind}");
+    }
+}
+
+#[test]
+fn help_explains() {
+    let output = run(&["--help"], &[]);
+    assert!(output.status.success());
+    for word in ["model vectors", "model send", "model list", "--seed", "--script"] {
+        assert!(text(&output.stdout).contains(word));
+    }
+}
+
+#[test]
+fn wrong_usage_is_told() {
+    let calls: [&[&str]; 14] = [
+        &[],
+        &["dance"],
+        &["list", "file"],
+        &["read", "file"],
+        &["vectors", "everything"],
+        &["vectors", "--seed"],
+        &["vectors", "--seed", "x"],
+        &["send"],
+        &["send", "--offer", "1"],
+        &["send", "--offer", "GG"],
+        &["send", "--offer", "1F:x"],
+        &["send", "--offer", "1F*x"],
+        &["send", "--script", "/no/such/file"],
+        &["send", "--preset", "0000", "--offer", "1F"],
+    ];
+    for call in calls {
+        let output = run(call, &[]);
+        assert_eq!(output.status.code(), Some(2), "{call:?}");
+        assert!(output.stdout.is_empty() && text(&output.stderr).starts_with("model: "), "{call:?}");
+    }
+}

@@ -1,0 +1,15 @@
+//! Tests of the model against 01's figures, rules, refusals and faults.
+
+mod commands;
+mod common;
+mod faults;
+mod figures;
+mod history;
+mod layout;
+mod presets;
+mod reading;
+mod refusals;
+mod sending;
+mod sessions;
+mod vector_text;
+mod walking;
