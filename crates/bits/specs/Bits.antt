@@ -4,7 +4,7 @@ use mathlib.Core.Bool.{Bool, true, false, xor}
 use mathlib.Core.List.{List, [], _∷_, _++_}
 use Prim.Native.Nat.{ℕ, zero, suc, _+_, _*_, _/_, _%_, _^_}
 use lib.Dec.{eqb}
-use lib.ListN.{length, replicate}
+use lib.ListN.{length, take, drop, replicate}
 
 -- the lowest bit of a number
 unfoldable pub odd : ℕ → Bool
@@ -43,3 +43,8 @@ unfoldable pub xors : List Bool → List Bool → List Bool
 xors [] ys = []
 xors (x ∷ xs) [] = []
 xors (x ∷ xs) (y ∷ ys) = xor x y ∷ xors xs ys
+
+-- n octets packed from bits, most significant bit first, with zeros where the bits have run out
+unfoldable pub octets : ℕ → List Bool → List ℕ
+octets zero bs = []
+octets (suc n) bs = number (take 8 (bs ++ zeros 8)) ∷ octets n (drop 8 bs)

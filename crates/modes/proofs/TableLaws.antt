@@ -171,3 +171,28 @@ held-fit m Service = fit (scOctets 1 16) refl
 held-fit m Voice = audio-fit (m .audio)
 held-fit m Lsd = lsd-fit (m .lsd)
 held-fit m Nobody = fit (octetBitsFrom 8) refl
+
+-- ---- audio is octet bits 1 to w and no SC octet, data is octet bits a to 7, whatever the value
+abbrev fromOne : Places → Bool
+fromOne p = eqb (p .from) 1 && (eqb (p .first) 17 && eqb (p .last) 16)
+
+pub audio-shape : (v : ℕ) → ((audioPlaces v) .from ≡ 1) × ((audioPlaces v) .first ≡ 17) × ((audioPlaces v) .last ≡ 16)
+unfolding audioPlaces audioTable
+audio-shape v =
+    let p = audioPlaces v in
+    let t : fromOne p ≡ true = beside-all fromOne audioTable (notListed (octetBitsTo 0)) v refl refl in
+    let u = and-right (eqb (p .from) 1) (eqb (p .first) 17 && eqb (p .last) 16) t in (
+      eqb-true (p .from) 1 (and-left (eqb (p .from) 1) (eqb (p .first) 17 && eqb (p .last) 16) t),
+      eqb-true (p .first) 17 (and-left (eqb (p .first) 17) (eqb (p .last) 16) u),
+      eqb-true (p .last) 16 (and-right (eqb (p .first) 17) (eqb (p .last) 16) u),
+    )
+
+abbrev toSeven : Places → Bool
+toSeven p = eqb (p .to) 7 && leb 17 (p .first)
+
+pub lsd-shape : (v : ℕ) → ((lsdPlaces v) .to ≡ 7) × (17 ≤ (lsdPlaces v) .first)
+unfolding lsdPlaces lsdTable
+lsd-shape v =
+    let p = lsdPlaces v in
+    let t : toSeven p ≡ true = beside-all toSeven lsdTable (notListed (octetBitsFrom 8)) v refl refl in
+    (eqb-true (p .to) 7 (and-left (eqb (p .to) 7) (leb 17 (p .first)) t), leb-true 17 (p .first) (and-right (eqb (p .to) 7) (leb 17 (p .first)) t))

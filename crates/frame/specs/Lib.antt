@@ -1,0 +1,5 @@
+pub mod Streams
+pub mod Service
+pub mod Block
+pub mod Channel
+pub mod Layout
