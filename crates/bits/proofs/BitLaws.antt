@@ -2,12 +2,12 @@
 use mathlib.Core.Path.{_≡_, refl, sym, ap, ap₂, _∙_}
 use mathlib.Core.Bool.{Bool, true, false, xor}
 use mathlib.Core.List.{List, [], _∷_, _++_, append-assoc, append-nil}
-use Prim.Native.Nat.{ℕ, zero, suc, _+_, _*_, _/_, _%_, _^_, _<_, _≤_}
-use native.Mathlib.Nat.{suc-inj, suc-ne-zero, pow-suc, mul-assoc, add-assoc, mod-one, mod-eq-of-lt, mul-add-mod-self-right, mul-add-div-right, pow-succ', zero-div, zero-mul, add-mul, zero-add, suc-add, add-comm, add-zero}
+use Prim.Native.Nat.{ℕ, zero, suc, _+_, _-_, _*_, _/_, _%_, _^_, _<_, _≤_}
+use native.Mathlib.Nat.{suc-inj, suc-ne-zero, pow-suc, mul-assoc, add-assoc, mod-one, mod-eq-of-lt, mul-add-mod-self-right, mul-add-div-right, pow-succ', zero-div, zero-mul, add-mul, zero-add, suc-add, add-comm, add-zero, le-of-suc-le-suc}
 use native.Mathlib.Omega.{arith}
 use native.Mathlib.Numerals.{one-add}
 use lib.Dec.{eqb}
-use lib.ListN.{length, take, drop, length-append}
+use lib.ListN.{length, getD, take, drop, length-append}
 use lib.Pow.{pow-pos, pow-add, mod-pow-add, high, split, shr-shr, shl-shr}
 use lib.Bits.{bitXor, xor-step, xor-shr, differ}
 use Rattle.bits.specs.Bits.{odd, lowBits, octetBits, bitsOf, digit, number, zeros, xors}
@@ -169,6 +169,14 @@ pub lowBits-shifted : (j k n : ℕ) → lowBits (j + k) (n * 2 ^ k) ≡ lowBits 
 lowBits-shifted j k n =
     lowBits-append j k (n * 2 ^ k)
     ∙ ap₂ _++_ (ap (lowBits j) (shl-shr n k)) (ap (lowBits k) (sym (add-zero (n * 2 ^ k))) ∙ lowBits-above k n 0 ∙ lowBits-zero k)
+
+-- bit r of k bits, counted from the highest
+pub getD-lowBits : (k n r : ℕ) (d : Bool) → r < k → getD (lowBits k n) r d ≡ odd (n / 2 ^ (k - (r + 1)))
+unfolding lowBits
+getD-lowBits zero n r d h = absurd (omega arith)
+getD-lowBits (suc k) n zero d h = ap (λ (j : ℕ). odd (n / 2 ^ j)) (omega arith)
+getD-lowBits (suc k) n (suc r) d h =
+    getD-lowBits k n r d (le-of-suc-le-suc h) ∙ ap (λ (j : ℕ). odd (n / 2 ^ j)) (omega arith)
 
 -- ---- octets
 pub bitsOf-append : (s t : List ℕ) → bitsOf (s ++ t) ≡ bitsOf s ++ bitsOf t

@@ -5,4 +5,5 @@ pub mod PackLaws
 pub mod RemainderLaws
 pub mod RunLaws
 pub mod Settled
+pub mod ShiftLaws
 pub mod Table

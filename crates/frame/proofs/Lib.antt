@@ -1,2 +1,4 @@
 pub mod StreamLaws
 pub mod LayoutLaws
+pub mod OctetLaws
+pub mod WrittenLaws

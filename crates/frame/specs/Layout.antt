@@ -1,13 +1,17 @@
 -- How the code sees the places of a mode: by four numbers. No public contract speaks of it; proofs/LayoutLaws shows that it is the rule of owners.
-use mathlib.Core.Bool.{Bool, cond, _&&_}
+use mathlib.Core.Path.{_≡_}
+use mathlib.Core.Bool.{Bool, cond}
 use mathlib.Core.List.{List, [], _∷_, _++_}
 use Prim.Native.Nat.{ℕ, zero, suc, _+_, _-_, _≤_, _<_, min}
 use lib.Dec.{leb}
-use lib.ListN.{replicate}
+use lib.ListN.{length, drop, replicate}
+use Rattle.bits.specs.Bits.{lowBits, bitsOf, octets}
 use Rattle.modes.specs.Owners.{heldBy}
 use Rattle.modes.specs.declared.Mode.{Mode}
 use Rattle.modes.specs.declared.Owner.{Owner}
 use Rattle.modes.specs.declared.Owner.the-variants.{Service, Voice, Lsd, Nobody}
+use Rattle.frame.specs.Streams.{Streams, fill}
+use Rattle.frame.specs.Block.{heard, streams}
 use Rattle.frame.specs.declared.Layout.{Layout}
 
 -- voice owns octet bits 1 to w, data the last ones that are left to it, and the SC octets of its range
@@ -40,3 +44,18 @@ pub record Apart (p : Layout) : Type 0 where
   pub after : 16 < p .first
   pub runs : p .first ≤ p .last + 1
   pub until : p .last ≤ 80
+
+-- what a frame is filled from: its sixteen service bits, voice from its bit v on, ones where it is muted, and data from its bit d on
+abbrev pub frameSources : ℕ → Bool → List ℕ → ℕ → List ℕ → ℕ → Streams
+frameSources service mute voice v lsd d = streams (lowBits 16 service) (drop v (heard mute (bitsOf voice))) (drop d (bitsOf lsd))
+
+unfoldable pub frameBy : Layout → Streams → List ℕ
+frameBy p s = octets 80 (fill (rowsBy p 80) s)
+
+-- buffers of the right length, read from no later than an odd frame reads them
+pub record Ready (p : Layout) (voice : List ℕ) (v : ℕ) (lsd : List ℕ) (d : ℕ) : Type 0 where
+  pub apart : Apart p
+  pub spoken : length voice ≡ 140
+  pub given : length lsd ≡ 156
+  pub from : v ≤ 560
+  pub on : d ≤ 624

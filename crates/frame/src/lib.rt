@@ -1,7 +1,14 @@
 // The frames of a block: service rows, the writer, and what the service channel of a block says (document 01).
 ghost use mathlib.Core.Path.{_≡_};
+ghost use mathlib.Core.Bool.{true};
+ghost use mathlib.Core.List.{List, [], _++_};
+ghost use Prim.Native.Nat.{_+_, _-_, _*_, _^_, _<_, _≤_, min};
+ghost use lib.ListN.{length, getD, drop};
+ghost use Rattle.bits.specs.Bits.{bitsOf, lowBits, digit, number};
+ghost use Rattle.frame.specs.Streams.{nexts, fill, rest};
 ghost use Rattle.frame.specs.Service.{serviceRows};
-ghost use Rattle.frame.specs.Layout.{layoutOf};
+ghost use Rattle.frame.specs.Block.{heard, streams};
+ghost use Rattle.frame.specs.Layout.{layoutOf, channelBy, rowBy, rowsBy, sc, Apart, Ready, frameSources, frameBy};
 use modes::BlockNumber;
 use modes::Mode;
 use modes::Owner;
@@ -78,5 +85,129 @@ pub fn layout_of(mode: Mode) -> Layout
         columns: left,
         first: lsd.first,
         last: lsd.last,
+    }
+}
+
+// Octet i of a buffer, or 0 past its end.
+fn octet_at(buffer: &[u8], i: usize) -> usize
+    ensures { λ r. ⌜ (r ≡ getD (now (buffer .entry)) i 0) × (r < 256) ⌝ }
+{
+    if i < buffer.len() {
+        return buffer[i] as usize;
+    }
+    0
+}
+
+// The n bits of a buffer from bit `at` on, eight at most, as a number.
+fn bits_at(buffer: &[u8], at: usize, n: usize) -> usize
+    requires { ⌜ (n ≤ 8) × (at + n ≤ 8 * length (now buffer)) ⌝ }
+    ensures { λ r. ⌜ r ≡ number (nexts n (drop at (bitsOf (now (buffer .entry))))) ⌝ }
+{
+    let i = at / 8;
+    let high = octet_at(buffer, i);
+    let low = octet_at(buffer, i + 1);
+    ((high * 256 + low) >> (16 - at % 8 - n)) % (1 << n)
+}
+
+// The n voice bits from bit `at` on, as a number: ones where voice is muted.
+fn voice_bits(voice: &[u8], mute: bool, at: usize, n: usize) -> usize
+    requires { ⌜ (n ≤ 8) × (at + n ≤ 8 * length (now voice)) ⌝ }
+    ensures { λ r. ⌜ r ≡ number (nexts n (drop at (heard mute (bitsOf (now (voice .entry)))))) ⌝ }
+{
+    if mute {
+        return (1 << n) - 1;
+    }
+    bits_at(voice, at, n)
+}
+
+// How many of SC octets 1 to n data holds.
+fn sc_before(p: Layout, n: usize) -> usize
+    requires { ⌜ n ≤ 80 ⌝ }
+    ensures { λ r. ⌜ r ≡ sc p n ⌝ }
+{
+    let first = p.first as usize;
+    let last = p.last as usize;
+    if last < n {
+        if first <= last {
+            return last + 1 - first;
+        }
+        return 0;
+    }
+    if first <= n {
+        return n + 1 - first;
+    }
+    0
+}
+
+// The SC bit of octet o + 1: a service bit, the data bit at `at`, or 1.
+fn channel_bit(p: Layout, o: usize, service: u16, lsd: &[u8], at: usize) -> usize
+    requires { ⌜ (o < 80) × (at + 1 ≤ 8 * length (now lsd)) ⌝ }
+    ensures { λ r. ⌜ r ≡ digit (getD (streams (drop o (lowBits 16 service)) [] (drop at (bitsOf (now (lsd .entry)))) (channelBy p (o + 1))) 0 true) ⌝ }
+{
+    let first = p.first as usize;
+    let last = p.last as usize;
+    if o < 16 {
+        return ((service as usize) >> (15 - o)) % 2;
+    }
+    if o + 1 < first {
+        return 1;
+    }
+    if last < o + 1 {
+        return 1;
+    }
+    bits_at(lsd, at, 1)
+}
+
+// An octet's number: voice, g ones, c data bits and the SC bit.
+fn joined(voice: usize, g: usize, c: usize, lsd: usize, last: usize) -> usize
+    requires { ⌜ (voice < 256) × (g ≤ 7) × (c ≤ 7) × (lsd < 256) × (last < 256) ⌝ }
+    ensures { λ r. ⌜ r ≡ ((voice * 2 ^ g + (2 ^ g - 1)) * 2 ^ c + lsd) * 2 + last ⌝ }
+{
+    ((((voice << g) + ((1 << g) - 1)) << c) + lsd) * 2 + last
+}
+
+// Octet o + 1 of a frame.
+fn octet_of(
+    p: Layout,
+    o: usize,
+    service: u16,
+    mute: bool,
+    voice: &[u8],
+    v: usize,
+    lsd: &[u8],
+    d: usize,
+) -> u8
+    requires { ⌜ o < 80 ⌝ }
+    requires { ⌜ Ready p (now voice) v (now lsd) d ⌝ }
+    ensures { λ r. ⌜ r ≡ number (fill (rowBy p (o + 1)) (rest (rowsBy p o) (frameSources service mute (now (voice .entry)) v (now (lsd .entry)) d))) ⌝ }
+{
+    let w = p.width as usize;
+    let c = p.columns as usize;
+    let at = d + o * c + sc_before(p, o);
+    let high = voice_bits(voice, mute, v + o * w, w);
+    let low = bits_at(lsd, at, c);
+    let last = channel_bit(p, o, service, lsd, at + c);
+    joined(high, 7 - (w + c), c, low, last) as u8
+}
+
+// One frame, whole: 80 octets.
+fn write_frame(
+    frame: &mut [u8],
+    p: Layout,
+    service: u16,
+    mute: bool,
+    voice: &[u8],
+    v: usize,
+    lsd: &[u8],
+    d: usize,
+)
+    requires { ⌜ length (now frame) ≡ 80 ⌝ }
+    requires { ⌜ Ready p (now voice) v (now lsd) d ⌝ }
+    ensures { λ _. ⌜ now (frame .exit) ≡ frameBy p (frameSources service mute (now (voice .entry)) v (now (lsd .entry)) d) ⌝ }
+{
+    let mut o = 0;
+    while o < 80 {
+        frame[o] = octet_of(p, o, service, mute, voice, v, lsd, d);
+        o += 1;
     }
 }

@@ -27,12 +27,12 @@ held-by-requires-2 : tie.Need-held-by-requires-2
 held-by-requires-2 c κs = search needs
 
 sub-left : tie.Need-sub-left
-sub-left c = 
+sub-left c =
     let a = c .before .before .before .args in
     rw (c .before .before .held-by .ensures) (held-fit (a .mode) Voice .ends)
 
 sub-wanted : tie.Need-sub-wanted
-sub-wanted c = 
+sub-wanted c =
     let a = c .before .before .before .before .args in
     rw (c .before .before .held-by2 .ensures) (omega (arith, held-fit (a .mode) Lsd .spans, held-fit (a .mode) Lsd .ends))
 

@@ -1,0 +1,134 @@
+-- The number of an octet of a frame: voice, nobody's ones, data and the service channel's bit, put together.
+use mathlib.Core.Path.{_≡_, refl, ap, ap₂, sym, _∙_}
+use mathlib.Core.Bool.{Bool, true, false, cond}
+use mathlib.Core.List.{List, [], _∷_, _++_}
+use Prim.Native.Nat.{ℕ, zero, suc, _+_, _-_, _*_, _^_, _≤_, _<_, min}
+use native.Mathlib.Nat.{zero-add, add-zero, pow-succ', one-mul, mul-one, mul-le-mul, suc-mul}
+use native.Mathlib.Omega.{arith}
+use borrow.Author.Tests.{leb-true, leb-false, le-leb, lt-leb}
+use lib.Dec.{leb}
+use lib.Pow.{pow-pos, pow-mono}
+use lib.ListN.{length, getD, drop, replicate}
+use lib.Seq.{drop-nil, drop-drop}
+use Rattle.bits.specs.Bits.{digit, number}
+use Rattle.bits.proofs.BitLaws.{number-append, number-bound}
+use Rattle.modes.specs.declared.Owner.{Owner}
+use Rattle.modes.specs.declared.Owner.the-variants.{Service, Voice, Lsd, Nobody}
+use Rattle.frame.specs.Streams.{Streams, same, count, rest, fill, nexts}
+use Rattle.frame.specs.Block.{streams}
+use Rattle.frame.specs.Layout.{columnsBy, channelBy, rowBy, rowsBy, sc, Apart}
+use Rattle.frame.specs.declared.Layout.{Layout}
+use Rattle.frame.proofs.StreamLaws.{fill-append, fill-all, rest-at, rest-rest, count-append, count-all, count-none, length-fill, length-nexts}
+use Rattle.frame.proofs.LayoutLaws.{count-voice, count-lsd, count-service, length-row}
+
+-- n places of a stream that has no bits
+pub ones : (n : ℕ) → number (nexts n []) ≡ 2 ^ n - 1
+unfolding number nexts
+ones zero = refl
+ones (suc n) = rw (length-nexts n [], ones n, pow-succ' 2 n, one-mul) (omega (arith, pow-pos n))
+
+-- one bit's number is its digit
+pub number-one : (l : List Bool) → number (nexts 1 l) ≡ digit (getD l 0 true)
+unfolding number nexts
+number-one l = rw (add-zero, mul-one)
+
+pub nexts-lt : (n : ℕ) (l : List Bool) → n ≤ 8 → number (nexts n l) < 256
+nexts-lt n l h =
+    let m : 2 ^ n ≤ 2 ^ 8 = pow-mono h in
+    omega (arith, rw length-nexts at (number-bound (nexts n l)))
+
+fill-columns : (p : Layout) (s : Streams) → s Nobody ≡ []
+    → fill (columnsBy p) s ≡ nexts (p .width) (s Voice) ++ nexts (7 - (p .width + p .columns)) [] ++ nexts (p .columns) (s Lsd)
+unfolding columnsBy rest same
+fill-columns p s e =
+    let w : List Owner = replicate (p .width) Voice in
+    let g : List Owner = replicate (7 - (p .width + p .columns)) Nobody in
+    let c : List Owner = replicate (p .columns) Lsd in
+    let none : count Lsd (w ++ g) ≡ 0 = simp (count-append, count-none Lsd Voice, count-none Lsd Nobody) in
+    fill-append (w ++ g) c s
+    ∙ ap₂ _++_
+    (fill-append w g s
+    ∙ ap₂ _++_ (fill-all Voice (p .width) s)
+    (fill-all Nobody (7 - (p .width + p .columns)) (rest w s)
+    ∙ ap (λ (l : List Bool). nexts (7 - (p .width + p .columns)) (drop (count Nobody w) l)) e
+    ∙ ap (nexts (7 - (p .width + p .columns))) (drop-nil (count Nobody w))))
+    (fill-all Lsd (p .columns) (rest (w ++ g) s) ∙ ap (λ (k : ℕ). nexts (p .columns) (drop k (s Lsd))) none)
+
+-- an octet's number, from any streams
+octet : (p : Layout) (o : ℕ) (s : Streams) → s Nobody ≡ []
+    → number (fill (rowBy p o) s)
+    ≡ ((number (nexts (p .width) (s Voice)) * 2 ^ (7 - (p .width + p .columns)) + (2 ^ (7 - (p .width + p .columns)) - 1)) * 2 ^ p .columns
+    + number (nexts (p .columns) (s Lsd))) * 2 + digit (getD (rest (columnsBy p) s (channelBy p o)) 0 true)
+unfolding rowBy fill number
+octet p o s e =
+    let w : List Bool = nexts (p .width) (s Voice) in
+    let g : List Bool = nexts (7 - (p .width + p .columns)) [] in
+    let c : List Bool = nexts (p .columns) (s Lsd) in
+    let b : Bool = getD (rest (columnsBy p) s (channelBy p o)) 0 true in
+    ap number (fill-append (columnsBy p) (channelBy p o ∷ []) s ∙ ap (λ (l : List Bool). l ++ (b ∷ [])) (fill-columns p s e))
+    ∙ number-append (w ++ g ++ c) (b ∷ [])
+    ∙ rw (number-append (w ++ g) c, number-append w g, length-nexts, length-nexts, ones, mul-one, add-zero)
+
+-- it is an octet
+pub octet-lt : (p : Layout) (o : ℕ) (s : Streams) → p .width + p .columns ≤ 7 → number (fill (rowBy p o) s) < 256
+octet-lt p o s h = rw (length-fill, length-row p o h) at (number-bound (fill (rowBy p o) s))
+
+-- the bits of the octets before octet o + 1, and its own
+pub before : (o w : ℕ) → o < 80 → w ≤ 7 → o * w + w ≤ 560
+before o w ho hw = rw suc-mul at (mul-le-mul ho hw)
+
+-- octet o + 1 of a frame
+pub octet-at : (p : Layout) (o : ℕ) (s : Streams) → s Nobody ≡ [] → Apart p
+    → number (fill (rowBy p (o + 1)) (rest (rowsBy p o) s))
+    ≡ ((number (nexts (p .width) (drop (o * p .width) (s Voice))) * 2 ^ (7 - (p .width + p .columns))
+    + (2 ^ (7 - (p .width + p .columns)) - 1)) * 2 ^ p .columns
+    + number (nexts (p .columns) (drop (o * p .columns + sc p o) (s Lsd)))) * 2
+    + digit (getD (rest (rowsBy p o ++ columnsBy p) s (channelBy p (o + 1))) 0 true)
+octet-at p o s e h =
+    octet p (o + 1) (rest (rowsBy p o) s)
+    (rest-at (rowsBy p o) s Nobody ∙ ap (drop (count Nobody (rowsBy p o))) e ∙ drop-nil (count Nobody (rowsBy p o)))
+    ∙ rw (rest-rest (rowsBy p o) (columnsBy p) s, rest-at (rowsBy p o) s Voice, rest-at (rowsBy p o) s Lsd, count-voice p o, count-lsd p o h)
+
+-- ---- the service channel's bit of octet o + 1
+before-service : (p : Layout) (o : ℕ) → count Service (rowsBy p o ++ columnsBy p) ≡ min o 16
+unfolding columnsBy same
+before-service p o = simp (count-append, count-service, count-none Service Voice, count-none Service Nobody, count-none Service Lsd, add-zero)
+
+before-lsd : (p : Layout) (o : ℕ) → Apart p → count Lsd (rowsBy p o ++ columnsBy p) ≡ o * p .columns + sc p o + p .columns
+unfolding columnsBy same
+before-lsd p o h = simp (count-append, count-lsd p o h, count-all, count-none Lsd Voice, count-none Lsd Nobody, zero-add)
+
+-- it is a service bit, the next data bit, or 1
+pub channel-next : (p : Layout) (o : ℕ) (service voice lsd : List Bool) → Apart p
+    → getD (rest (rowsBy p o ++ columnsBy p) (streams service voice lsd) (channelBy p (o + 1))) 0 true
+    ≡ getD (streams (drop o service) [] (drop (o * p .columns + sc p o + p .columns) lsd) (channelBy p (o + 1))) 0 true
+unfolding channelBy
+channel-next p o service voice lsd h = go (leb (o + 1) 16) (leb (p .first) (o + 1)) (leb (o + 1) (p .last)) refl
+  where
+    go : (a b c : Bool) → leb (o + 1) 16 ≡ a
+        → getD (rest (rowsBy p o ++ columnsBy p) (streams service voice lsd) (cond a Service (cond b (cond c Lsd Nobody) Nobody))) 0 true
+        ≡ getD (streams (drop o service) [] (drop (o * p .columns + sc p o + p .columns) lsd) (cond a Service (cond b (cond c Lsd Nobody) Nobody))) 0 true
+    go true b c e =
+        let l : o + 1 ≤ 16 = leb-true (o + 1) 16 e in
+        let k : min o 16 ≡ o = omega arith in
+        rw (rest-at, before-service p o, k)
+    go false true true e = rw (rest-at, before-lsd p o h)
+    go false true false e = rw (rest-at, drop-nil)
+    go false false c e = rw (rest-at, drop-nil)
+
+-- which owner that is
+pub channel-service : (p : Layout) (o : ℕ) → o ≤ 16 → channelBy p o ≡ Service
+unfolding channelBy
+channel-service p o h = rw (le-leb o 16 h)
+
+pub channel-before : (p : Layout) (o : ℕ) → 16 < o → o < p .first → channelBy p o ≡ Nobody
+unfolding channelBy
+channel-before p o h k = rw (lt-leb o 16 h, lt-leb (p .first) o k)
+
+pub channel-past : (p : Layout) (o : ℕ) → 16 < o → p .first ≤ o → p .last < o → channelBy p o ≡ Nobody
+unfolding channelBy
+channel-past p o h k l = rw (lt-leb o 16 h, le-leb (p .first) o k, lt-leb o (p .last) l)
+
+pub channel-lsd : (p : Layout) (o : ℕ) → 16 < o → p .first ≤ o → o ≤ p .last → channelBy p o ≡ Lsd
+unfolding channelBy
+channel-lsd p o h k l = rw (lt-leb o 16 h, le-leb (p .first) o k, le-leb o (p .last) l)

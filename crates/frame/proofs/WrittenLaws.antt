@@ -1,0 +1,78 @@
+-- Octets written one after the other into a slice, and a block as its two halves.
+use mathlib.Core.Path.{_≡_, refl, ap, sym, _∙_, fun-ext}
+use mathlib.Core.Bool.{Bool, true}
+use mathlib.Core.List.{List, [], _∷_, _++_, append-nil}
+use Prim.Native.Nat.{ℕ, suc, _+_, _-_, _*_, _≤_, _<_, min}
+use native.Mathlib.Numerals.{add-one}
+use native.Mathlib.Omega.{arith}
+use borrow.Rule.Slice.PartMut.{putMid}
+use lib.ListN.{length, getD, List·getD-append, drop, set, length-append, drop-of-length-le}
+use lib.Seq.{drop-nil, drop-at, take-at, set-at, drop-cons, append-snoc}
+use Rattle.bits.specs.Bits.{number, octets}
+use Rattle.bits.proofs.PackLaws.{octets-append, octets-one}
+use Rattle.modes.specs.declared.Owner.{Owner}
+use Rattle.modes.specs.declared.Owner.the-variants.{Service, Voice, Lsd, Nobody}
+use Rattle.frame.specs.Streams.{Streams, count, rest, fill}
+use Rattle.frame.specs.Block.{streams}
+use Rattle.frame.specs.Layout.{rowBy, rowsBy, sc, Apart, frameBy}
+use Rattle.frame.specs.declared.Layout.{Layout}
+use Rattle.frame.proofs.StreamLaws.{fill-append, fill-agree, length-fill}
+use Rattle.frame.proofs.LayoutLaws.{count-service, count-voice, count-lsd, length-row, length-rows}
+
+-- one more element written: W k is what the first k elements are to be
+pub one-more : (W : ℕ → List ℕ) (f : List ℕ) (k x : ℕ) → length (W k) ≡ k → W (k + 1) ≡ W k ++ (x ∷ []) → k < length f
+    → set (W k ++ drop k f) k x ≡ W (k + 1) ++ drop (k + 1) f
+one-more W f k x hl hw hk = rw (hw, add-one k, drop-cons f k 0 hk, set-at (W k) _ _ x k hl) (sym (append-snoc (W k) x (drop (suc k) f)))
+
+-- a frame's first n octets, and one more
+abbrev pub done : Layout → Streams → ℕ → List ℕ
+done p s n = octets n (fill (rowsBy p n) s)
+
+pub done-more : (p : Layout) (s : Streams) (n : ℕ) → p .width + p .columns ≤ 7
+    → done p s (n + 1) ≡ done p s n ++ (number (fill (rowBy p (n + 1)) (rest (rowsBy p n) s)) ∷ [])
+unfolding rowsBy
+done-more p s n h =
+    let next : List Owner = rowBy p (n + 1) in
+    let e : rowsBy p (n + 1) ≡ rowsBy p n ++ next = ap (rowsBy p) (add-one n) ∙ ap (λ (k : ℕ). rowsBy p n ++ rowBy p k) (sym (add-one n)) in
+    ap (λ (l : List Owner). octets (n + 1) (fill l s)) e
+    ∙ ap (octets (n + 1)) (fill-append (rowsBy p n) next s)
+    ∙ octets-append n 1 (fill (rowsBy p n) s) (fill next (rest (rowsBy p n) s)) (length-fill (rowsBy p n) s ∙ length-rows p n h)
+    ∙ ap (λ (l : List ℕ). done p s n ++ l) (octets-one (fill next (rest (rowsBy p n) s)) (length-fill next (rest (rowsBy p n) s) ∙ length-row p (n + 1) h))
+
+-- the second half of a slice, written and come home
+pub second-half : (es rs os : List ℕ) → length es ≡ 80 → length rs ≡ 80 → putMid 80 (length (es ++ rs) - 80) (es ++ rs) os ≡ es ++ os
+second-half es rs os he hr =
+    let k : length (es ++ rs) - 80 ≡ 80 = rw length-append (omega arith) in
+    let l : length rs ≤ 80 = omega arith in
+    rw (k, take-at es rs 80 he, drop-at es rs 80 he, drop-of-length-le rs l, append-nil)
+
+-- a block is two frames, of any streams
+pub two-frames : (p : Layout) (s : Streams) → p .width + p .columns ≤ 7
+    → octets 160 (fill (rowsBy p 80 ++ rowsBy p 80) s) ≡ frameBy p s ++ frameBy p (rest (rowsBy p 80) s)
+unfolding frameBy
+two-frames p s h =
+    ap (octets 160) (fill-append (rowsBy p 80) (rowsBy p 80) s)
+    ∙ octets-append 80 80 (fill (rowsBy p 80) s) (fill (rowsBy p 80) (rest (rowsBy p 80) s)) (length-fill (rowsBy p 80) s ∙ length-rows p 80 h)
+
+-- the even frame sees the first sixteen service bits alone
+pub even-half : (p : Layout) (es os vs ds : List Bool) → length es ≡ 16 → frameBy p (streams (es ++ os) vs ds) ≡ frameBy p (streams es vs ds)
+unfolding frameBy
+even-half p es os vs ds he = ap (octets 80) (fill-agree (rowsBy p 80) (streams (es ++ os) vs ds) (streams es vs ds) same-bits)
+  where
+    same-bits : (o : Owner) (k : ℕ) → k < count o (rowsBy p 80) → getD (streams (es ++ os) vs ds o) k true ≡ getD (streams es vs ds o) k true
+    same-bits Service k l = List·getD-append es os true k (rw he (rw count-service at l))
+    same-bits Voice k l = refl
+    same-bits Lsd k l = refl
+    same-bits Nobody k l = refl
+
+-- and the odd one the rest of every stream
+pub odd-half : (p : Layout) (es os vs ds : List Bool) → Apart p → length es ≡ 16
+    → rest (rowsBy p 80) (streams (es ++ os) vs ds) ≡ streams os (drop (80 * p .width) vs) (drop (80 * p .columns + sc p 80) ds)
+unfolding rest
+odd-half p es os vs ds h he = fun-ext at
+  where
+    at : (o : Owner) → rest (rowsBy p 80) (streams (es ++ os) vs ds) o ≡ streams os (drop (80 * p .width) vs) (drop (80 * p .columns + sc p 80) ds) o
+    at Service = rw (count-service p 80) (drop-at es os 16 he)
+    at Voice = rw (count-voice p 80)
+    at Lsd = rw (count-lsd p 80 h)
+    at Nobody = drop-nil (count Nobody (rowsBy p 80))

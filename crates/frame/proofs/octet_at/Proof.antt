@@ -1,0 +1,23 @@
+-- `frame::octet_at` meets its contract: an element of a slice of octets is below 256, and past the end stands 0.
+use mathlib.Core.Path.{_≡_, refl, sym, ap, ap₂, _∙_, subst}
+use native.Mathlib.Omega.{arith}
+use lib.Dec.{lit<}
+use lib.ListN.{List·getD-eq-default}
+use borrow.Author.Needs.{needs}
+use Rattle.frame.proofs.octet_at.Statement.{statement}
+use Rattle.frame.proofs.octet_at.Tie as tie
+
+shared-slice-read-result : tie.Need-shared-slice-read-result
+shared-slice-read-result c = search needs
+
+cast-result : tie.Need-cast-result
+cast-result c = omega (arith, c .shared-slice-known .given (c .before .before .args .i))
+
+returns : tie.Need-returns
+returns c = (refl, omega (arith, c .shared-slice-known .given (c .before .before .args .i)))
+
+returns-2 : tie.Need-returns-2
+returns-2 c = (sym (List·getD-eq-default (c .before .args .buffer .now) 0 (c .if1 .left)), lit< tt)
+
+pub octet-at-spec : {M : Type 1} → statement M
+octet-at-spec = tie.close (tie.spec shared-slice-read-result cast-result returns returns-2)
