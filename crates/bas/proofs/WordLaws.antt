@@ -116,7 +116,7 @@ pub line-back : (w : ℕ) → lineOrder (lineOrder (lowBits 16 w)) ≡ lowBits 1
 unfolding lineOrder evenOrder oddOrder lowBits
 line-back w = refl
 
-length-line : (w : ℕ) → length (lineOrder (lowBits 16 w)) ≡ 16
+pub length-line : (w : List Bool) → length (lineOrder w) ≡ 16
 unfolding lineOrder evenOrder oddOrder
 length-line w = refl
 
@@ -127,7 +127,7 @@ length-odd p = refl
 -- so what `line_order` gives of what it gave is the word again
 pub line-back-number : (w : ℕ) → w < 65536 → number (lineOrder (lowBits 16 (number (lineOrder (lowBits 16 w))))) ≡ w
 line-back-number w h =
-    ap (λ (l : List Bool). number (lineOrder l)) (lowBits-back 16 (lineOrder (lowBits 16 w)) (length-line w))
+    ap (λ (l : List Bool). number (lineOrder l)) (lowBits-back 16 (lineOrder (lowBits 16 w)) (length-line (lowBits 16 w)))
     ∙ ap number (line-back w) ∙ number-fits 16 w h
 
 -- the line's sixteen bits as a number, octet by octet

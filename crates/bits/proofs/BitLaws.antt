@@ -8,6 +8,7 @@ use native.Mathlib.Omega.{arith}
 use native.Mathlib.Numerals.{one-add}
 use lib.Dec.{eqb}
 use lib.ListN.{length, getD, take, drop, length-append}
+use lib.Seq.{take-at, drop-at}
 use lib.Pow.{pow-pos, pow-add, mod-pow-add, high, split, shr-shr, shl-shr}
 use lib.Bits.{bitXor, xor-step, xor-shr, differ}
 use Rattle.bits.specs.Bits.{odd, lowBits, octetBits, bitsOf, digit, number, zeros, xors}
@@ -265,3 +266,34 @@ drop-xors zero xs ys = refl
 drop-xors (suc n) [] ys = refl
 drop-xors (suc n) (x ∷ xs) [] = sym (xors-nil (drop n xs))
 drop-xors (suc n) (x ∷ xs) (y ∷ ys) = drop-xors n xs ys
+
+-- a list of eight is its eight elements
+pub eight-bits : (b : List Bool) → length b ≡ 8
+    → b ≡ getD b 0 false ∷ getD b 1 false ∷ getD b 2 false ∷ getD b 3 false ∷ getD b 4 false ∷ getD b 5 false ∷ getD b 6 false ∷ getD b 7 false ∷ []
+eight-bits [] h = absurd (omega arith)
+eight-bits (a ∷ []) h = absurd (omega arith)
+eight-bits (a ∷ b ∷ []) h = absurd (omega arith)
+eight-bits (a ∷ b ∷ c ∷ []) h = absurd (omega arith)
+eight-bits (a ∷ b ∷ c ∷ d ∷ []) h = absurd (omega arith)
+eight-bits (a ∷ b ∷ c ∷ d ∷ e ∷ []) h = absurd (omega arith)
+eight-bits (a ∷ b ∷ c ∷ d ∷ e ∷ f ∷ []) h = absurd (omega arith)
+eight-bits (a ∷ b ∷ c ∷ d ∷ e ∷ f ∷ g ∷ []) h = absurd (omega arith)
+eight-bits (a ∷ b ∷ c ∷ d ∷ e ∷ f ∷ g ∷ i ∷ []) h = refl
+eight-bits (a ∷ b ∷ c ∷ d ∷ e ∷ f ∷ g ∷ i ∷ j ∷ more) h = absurd (omega arith)
+
+-- sixteen bits as a number are two octets
+pub lowBits-two : (h l : ℕ) → l < 256 → lowBits 16 (h * 256 + l) ≡ octetBits h ++ octetBits l
+lowBits-two h l k =
+    lowBits-append 8 8 (h * 256 + l)
+    ∙ ap₂ _++_ (ap (lowBits 8) (high h 8 k)) (lowBits-above 8 h l)
+
+pub first-octet : (bs : List Bool) → length bs ≡ 16 → octetBits (number bs / 256) ≡ take 8 bs
+first-octet bs h =
+    sym (take-at (octetBits (number bs / 256)) (octetBits (number bs)) 8 (length-lowBits 8 (number bs / 256)))
+    ∙ ap (take 8) (sym (lowBits-append 8 8 (number bs)) ∙ lowBits-back 16 bs h)
+
+pub second-octet : (bs : List Bool) → length bs ≡ 16 → octetBits (number bs % 256) ≡ drop 8 bs
+second-octet bs h =
+    lowBits-mod 8 (number bs)
+    ∙ sym (drop-at (octetBits (number bs / 256)) (octetBits (number bs)) 8 (length-lowBits 8 (number bs / 256)))
+    ∙ ap (drop 8) (sym (lowBits-append 8 8 (number bs)) ∙ lowBits-back 16 bs h)

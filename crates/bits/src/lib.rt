@@ -1,6 +1,8 @@
-// The CRC-4 of octets and of a block (document 01, 'CRC-4').
+// Bits as a number, and the CRC-4 of octets and of a block (document 01, 'What the unit carries' and 'CRC-4').
 ghost use mathlib.Core.Path.{_≡_};
 ghost use mathlib.Core.List.{[], _∷_};
+ghost use Prim.Native.Nat.{_≤_};
+ghost use Rattle.bits.specs.Bits.{digit, number};
 ghost use Rattle.bits.specs.Crc.{crc4Of, crc4From, summed, blockCrcOf};
 
 // The CRC-4 of each single octet.
@@ -303,4 +305,25 @@ pub fn block_crc(block: &[u8]) -> u8
         sum = crc4_octet(sum, summed_octet(i, block[i]));
     }
     sum
+}
+
+// A bit as a digit; its bound is what the sum of `octet` needs.
+fn digit_of(bit: bool) -> u8
+    ensures { λ r. ⌜ (r ≡ digit bit) × (r ≤ 1) ⌝ }
+{
+    if bit { 1 } else { 0 }
+}
+
+// The octet that eight bits spell, first bit highest.
+pub fn octet(bits: [bool; 8]) -> u8
+    ensures { λ r. ⌜ r ≡ number bits ⌝ }
+{
+    digit_of(bits[0]) * 128
+        + digit_of(bits[1]) * 64
+        + digit_of(bits[2]) * 32
+        + digit_of(bits[3]) * 16
+        + digit_of(bits[4]) * 8
+        + digit_of(bits[5]) * 4
+        + digit_of(bits[6]) * 2
+        + digit_of(bits[7])
 }

@@ -4,10 +4,10 @@ ghost use mathlib.Core.Bool.{true};
 ghost use mathlib.Core.List.{List, [], _++_};
 ghost use Prim.Native.Nat.{_+_, _-_, _*_, _^_, _<_, _≤_, min};
 ghost use lib.ListN.{length, getD, drop};
-ghost use Rattle.bits.specs.Bits.{bitsOf, lowBits, digit, number};
+ghost use Rattle.bits.specs.Bits.{bitsOf, lowBits, octetBits, digit, number, octets};
 ghost use Rattle.frame.specs.Streams.{nexts, fill, rest};
 ghost use Rattle.frame.specs.Service.{serviceRows};
-ghost use Rattle.frame.specs.Block.{heard, streams};
+ghost use Rattle.frame.specs.Block.{serviceBits, heard, streams, fitting, lineAfter};
 ghost use Rattle.frame.specs.Layout.{layoutOf, channelBy, rowBy, rowsBy, sc, Apart, Ready, frameSources, frameBy};
 use modes::BlockNumber;
 use modes::Mode;
@@ -210,4 +210,73 @@ fn write_frame(
         frame[o] = octet_of(p, o, service, mute, voice, v, lsd, d);
         o += 1;
     }
+}
+
+// A frame's sixteen service bits as a number: its row, and its half of the BAS word.
+fn service_word(row: [bool; 8], half: u8) -> u16
+    ensures { λ r. ⌜ lowBits 16 r ≡ row ++ octetBits half ⌝ }
+{
+    let first = bits::octet(row);
+    (first as u16) * 256 + (half as u16)
+}
+
+// The service bits of a block's two frames.
+struct Service {
+    even: u16,
+    odd: u16,
+}
+
+fn service_of(header: Header) -> Service
+    ensures { λ r. ⌜ lowBits 16 (r .even) ++ lowBits 16 (r .odd) ≡ serviceBits header ⌝ }
+{
+    let rows = service_rows(header.a, header.e, header.t, header.remainder);
+    let block = header.block;
+    let i = modes::even_frame(block).0 as usize;
+    let j = modes::odd_frame(block).0 as usize;
+    let word = bas::line_order(bas::word_of(header.code));
+    let even = rows[i];
+    let odd = rows[j];
+    Service {
+        even: service_word(even, (word / 256) as u8),
+        odd: service_word(odd, (word % 256) as u8),
+    }
+}
+
+// Both frames of a block: the odd half is filled apart from the even half, and goes on in voice and data where that ended.
+fn fill_block(line: &mut [u8], p: Layout, service: Service, mute: bool, voice: &[u8], lsd: &[u8])
+    requires { ⌜ length (now line) ≡ 160 ⌝ }
+    requires { ⌜ Ready p (now voice) 0 (now lsd) 0 ⌝ }
+    ensures { λ _. ⌜ now (line .exit) ≡ octets 160 (fill (rowsBy p 80 ++ rowsBy p 80) (streams (lowBits 16 (service .even) ++ lowBits 16 (service .odd)) (heard mute (bitsOf (now (voice .entry)))) (bitsOf (now (lsd .entry))))) ⌝ }
+{
+    let w = p.width as usize;
+    let c = p.columns as usize;
+    let d = 80 * c + sc_before(p, 80);
+    write_frame(&mut line[..80], p, service.even, mute, voice, 0, lsd, 0);
+    write_frame(&mut line[80..], p, service.odd, mute, voice, 80 * w, lsd, d);
+}
+
+// Writes a block into a line of 160 octets, from 140 octets of voice and 156 of data. Where a length is wrong nothing is written,
+// and the answer is false.
+pub fn write_block(
+    line: &mut [u8],
+    mode: Mode,
+    header: Header,
+    mute: bool,
+    voice: &[u8],
+    lsd: &[u8],
+) -> bool
+    ensures { λ r. ⌜ (r ≡ fitting (length (now (line .entry))) (length (now (voice .entry))) (length (now (lsd .entry)))) × (now (line .exit) ≡ lineAfter mode header mute (now (voice .entry)) (now (lsd .entry)) (now (line .entry))) ⌝ }
+{
+    if line.len() != 160 {
+        return false;
+    }
+    if voice.len() != 140 {
+        return false;
+    }
+    if lsd.len() != 156 {
+        return false;
+    }
+    let p = layout_of(mode);
+    fill_block(line, p, service_of(header), mute, voice, lsd);
+    true
 }

@@ -45,7 +45,7 @@ rem-result : tie.Need-rem-result
 rem-result c = rw (one-shl (c .before .before .before .args .n) (omega arith)) (pow-pos (c .before .before .before .args .n))
 
 returns : tie.Need-returns
-returns c = 
+returns c =
     let a = c .before .before .before .args in
     let xs = now (a .buffer) in
     let high = c .before .octet-at .ensures in

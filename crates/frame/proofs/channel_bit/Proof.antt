@@ -27,7 +27,7 @@ shr-result : tie.Need-shr-result
 shr-result c = search needs
 
 returns : tie.Need-returns
-returns c = 
+returns c =
     let a = c .before .before .before .before .args in
     let bits = lowBits 16 (a .service) in
     let k : 16 - (a .o + 1) ≡ 15 - a .o = omega arith in
@@ -37,7 +37,7 @@ add-if2 : tie.Need-add-if2
 add-if2 c = search needs
 
 returns-2 : tie.Need-returns-2
-returns-2 c = 
+returns-2 c =
     let a = c .before .before .before .before .before .args in
     rw (channel-before (a .p) (a .o + 1) (omega arith) (omega arith))
 
@@ -45,7 +45,7 @@ add-if3 : tie.Need-add-if3
 add-if3 c = search needs
 
 returns-3 : tie.Need-returns-3
-returns-3 c = 
+returns-3 c =
     let a = c .before .before .before .before .before .before .args in
     rw (channel-past (a .p) (a .o + 1) (omega arith) (omega arith) (omega arith))
 
@@ -53,7 +53,7 @@ bits-at-requires : tie.Need-bits-at-requires
 bits-at-requires c κs = search needs
 
 returns-4 : tie.Need-returns-4
-returns-4 c = 
+returns-4 c =
     let a = c .before .before .before .before .before .before .before .args in
     rw (channel-lsd (a .p) (a .o + 1) (omega arith) (omega arith) (omega arith)) (c .bits-at .ensures ∙ number-one _)
 

@@ -29,7 +29,7 @@ sub-result : tie.Need-sub-result
 sub-result c = rw (one-shl (c .args .g) (omega arith)) (pow-pos (c .args .g))
 
 add-result : tie.Need-add-result
-add-result c = 
+add-result c =
     let a = c .args in
     rw (shl-same 8 (a .voice) (a .g) (omega arith) (omega arith) (omega arith), one-shl (a .g) (omega arith))
     (omega (arith, upper-lt (a .voice) (a .g) (omega arith) (omega arith)))
@@ -38,25 +38,25 @@ shl-result-3 : tie.Need-shl-result-3
 shl-result-3 c = search needs
 
 add-result-2 : tie.Need-add-result-2
-add-result-2 c = 
+add-result-2 c =
     let a = c .args in
     rw (whole (a .voice) (a .g) (a .c) (omega arith) (omega arith) (omega arith))
     (omega (arith, shl-bound 16 (upper (a .voice) (a .g)) (a .c) (upper-lt (a .voice) (a .g) (omega arith) (omega arith)) (omega arith)))
 
 mul-result : tie.Need-mul-result
-mul-result c = 
+mul-result c =
     let a = c .args in
     rw (whole (a .voice) (a .g) (a .c) (omega arith) (omega arith) (omega arith))
     (omega (arith, shl-bound 16 (upper (a .voice) (a .g)) (a .c) (upper-lt (a .voice) (a .g) (omega arith) (omega arith)) (omega arith)))
 
 add-result-3 : tie.Need-add-result-3
-add-result-3 c = 
+add-result-3 c =
     let a = c .args in
     rw (whole (a .voice) (a .g) (a .c) (omega arith) (omega arith) (omega arith))
     (omega (arith, shl-bound 16 (upper (a .voice) (a .g)) (a .c) (upper-lt (a .voice) (a .g) (omega arith) (omega arith)) (omega arith)))
 
 returns : tie.Need-returns
-returns c = 
+returns c =
     let a = c .args in
     rw (whole (a .voice) (a .g) (a .c) (omega arith) (omega arith) (omega arith))
 

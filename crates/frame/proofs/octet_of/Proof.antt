@@ -43,12 +43,12 @@ cast-c : tie.Need-cast-c
 cast-c c = search needs
 
 mul-at : tie.Need-mul-at
-mul-at c = 
+mul-at c =
     let s = c .before .before .before .before in
     omega (arith, s .pre .1 .spoken, s .pre .1 .given, before (s .args .o) (s .args .p .columns) (omega arith) (omega arith), before (s .args .o) (s .args .p .width) (omega arith) (omega arith))
 
 add-at : tie.Need-add-at
-add-at c = 
+add-at c =
     let s = c .before .before .before .before in
     omega (arith, s .pre .1 .spoken, s .pre .1 .given, before (s .args .o) (s .args .p .columns) (omega arith) (omega arith), before (s .args .o) (s .args .p .width) (omega arith) (omega arith))
 
@@ -56,37 +56,37 @@ sc-before-requires : tie.Need-sc-before-requires
 sc-before-requires c κs = search needs
 
 add-at-2 : tie.Need-add-at-2
-add-at-2 c = 
+add-at-2 c =
     let s = c .before .before .before .before .before in
     omega (arith, s .pre .1 .spoken, s .pre .1 .given, before (s .args .o) (s .args .p .columns) (omega arith) (omega arith), before (s .args .o) (s .args .p .width) (omega arith) (omega arith))
 
 mul-voice-bits : tie.Need-mul-voice-bits
-mul-voice-bits c = 
+mul-voice-bits c =
     let s = c .before .before .before .before .before in
     omega (arith, s .pre .1 .spoken, s .pre .1 .given, before (s .args .o) (s .args .p .columns) (omega arith) (omega arith), before (s .args .o) (s .args .p .width) (omega arith) (omega arith))
 
 add-voice-bits : tie.Need-add-voice-bits
-add-voice-bits c = 
+add-voice-bits c =
     let s = c .before .before .before .before .before in
     omega (arith, s .pre .1 .spoken, s .pre .1 .given, before (s .args .o) (s .args .p .columns) (omega arith) (omega arith), before (s .args .o) (s .args .p .width) (omega arith) (omega arith))
 
 voice-bits-requires : tie.Need-voice-bits-requires
-voice-bits-requires c κs = 
+voice-bits-requires c κs =
     let s = c .before .before .before .before .before in
     omega (arith, s .pre .1 .spoken, s .pre .1 .given, before (s .args .o) (s .args .p .columns) (omega arith) (omega arith), before (s .args .o) (s .args .p .width) (omega arith) (omega arith))
 
 bits-at-requires : tie.Need-bits-at-requires
-bits-at-requires c κs = 
+bits-at-requires c κs =
     let s = c .before .before .before .before .before .before in
     omega (arith, s .pre .1 .spoken, s .pre .1 .given, before (s .args .o) (s .args .p .columns) (omega arith) (omega arith), before (s .args .o) (s .args .p .width) (omega arith) (omega arith))
 
 add-channel-bit : tie.Need-add-channel-bit
-add-channel-bit c = 
+add-channel-bit c =
     let s = c .before .before .before .before .before .before .before in
     omega (arith, s .pre .1 .spoken, s .pre .1 .given, before (s .args .o) (s .args .p .columns) (omega arith) (omega arith), before (s .args .o) (s .args .p .width) (omega arith) (omega arith))
 
 channel-bit-requires : tie.Need-channel-bit-requires
-channel-bit-requires c κs = 
+channel-bit-requires c κs =
     let s = c .before .before .before .before .before .before .before in
     omega (arith, s .pre .1 .spoken, s .pre .1 .given, before (s .args .o) (s .args .p .columns) (omega arith) (omega arith), before (s .args .o) (s .args .p .width) (omega arith) (omega arith))
 
@@ -97,7 +97,7 @@ sub-joined : tie.Need-sub-joined
 sub-joined c = search needs
 
 joined-requires : tie.Need-joined-requires
-joined-requires c κs = 
+joined-requires c κs =
     let a = c .before .before .before .before .before .before .before .before .args in
     let at = a .d + a .o * a .p .columns + c .before .before .before .sc-before .result in
     let last = getD (streams (drop (a .o) (lowBits 16 (a .service))) [] (drop (at + a .p .columns) (bitsOf (now (a .lsd)))) (channelBy (a .p) (a .o + 1))) 0 true in (
@@ -109,7 +109,7 @@ joined-requires c κs =
     )
 
 cast-result : tie.Need-cast-result
-cast-result c = 
+cast-result c =
     let a = c .before .before .before .before .before .before .before .before .before .args in
     record { fits = rw (right c) (octet-lt (a .p) (a .o + 1) _ (omega arith)) }
 

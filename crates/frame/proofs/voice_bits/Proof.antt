@@ -16,7 +16,7 @@ sub-result : tie.Need-sub-result
 sub-result c = rw (one-shl (c .before .before .args .n) (omega arith)) (pow-pos (c .before .before .args .n))
 
 returns : tie.Need-returns
-returns c = 
+returns c =
     let a = c .before .before .args in
     rw (one-shl (a .n) (omega arith), c .if1 .taken, drop-nil (a .at)) (sym (ones (a .n)))
 

@@ -36,7 +36,7 @@ loop-less : tie.Need-loop-less Inv-loop μ-loop
 loop-less c = search needs
 
 loop-again : tie.Need-loop-again Inv-loop μ-loop
-loop-again c = 
+loop-again c =
     let a = c .before .before .before .before .before .before .args in
     let l = c .before .before .loop in
     let s = frameSources (a .service) (a .mute) (now (a .voice)) (a .v) (now (a .lsd)) (a .d) in (
@@ -53,7 +53,7 @@ same-length c = search needs
 
 returns : tie.Need-returns Inv-loop μ-loop
 unfolding frameBy
-returns c = 
+returns c =
     let a = c .before .before .before .before .before .args in
     let l = c .before .loop in
     let s = frameSources (a .service) (a .mute) (now (a .voice)) (a .v) (now (a .lsd)) (a .d) in

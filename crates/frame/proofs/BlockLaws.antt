@@ -1,0 +1,110 @@
+-- Laws of a block: its service bits, its definition by a layout, lengths that do not fit, and that a silent block does not hear the voice.
+use mathlib.Core.Path.{_≡_, refl, ap, ap₂, sym, _∙_}
+use mathlib.Core.Bool.{Bool, true, false, cond, _&&_, and-false}
+use mathlib.Core.List.{List, [], _++_, append-assoc}
+use Prim.Native.Nat.{ℕ, _+_, _*_, _/_, _%_, _<_}
+use native.Mathlib.Nat.{mul-zero}
+use native.Mathlib.Omega.{arith}
+use borrow.Author.Tests.{eq-eqb, ne-eqb}
+use lib.Dec.{eqb}
+use lib.ListN.{length, getD, take, drop}
+use Rattle.bits.specs.Bits.{lowBits, octetBits, bitsOf, number, octets}
+use Rattle.bits.proofs.BitLaws.{lowBits-back, first-octet, second-octet}
+use Rattle.bas.specs.Words.{wordBits, wordOf, lineOrder}
+use Rattle.bas.proofs.WordLaws.{length-wordBits, length-line}
+use Rattle.modes.specs.Numbers.{evenFrame, oddFrame}
+use Rattle.modes.specs.Owners.{heldBy}
+use Rattle.modes.specs.declared.Mode.{Mode}
+use Rattle.modes.specs.declared.Owner.{Owner}
+use Rattle.modes.specs.declared.Owner.the-variants.{Service, Voice, Lsd, Nobody}
+use Rattle.frame.specs.Streams.{count, fill}
+use Rattle.frame.specs.Service.{serviceRows}
+use Rattle.frame.specs.Block.{rows, places, serviceBits, heard, streams, sources, blockOf, fitting, lineAfter}
+use Rattle.frame.specs.Layout.{layoutOf, rowsBy}
+use Rattle.frame.specs.declared.Header.{Header}
+use Rattle.frame.proofs.StreamLaws.{fill-agree, count-append}
+use Rattle.frame.proofs.LayoutLaws.{rows-are, count-voice}
+
+-- ---- service bits
+-- the word's sixteen bits in line order, as a number and as its two halves
+word-bits : (code : ℕ) → lowBits 16 (wordOf code) ≡ wordBits code
+unfolding wordOf
+word-bits code = lowBits-back 16 (wordBits code) (length-wordBits code)
+
+even-octet : (code word : ℕ) → word ≡ number (lineOrder (lowBits 16 (wordOf code))) → octetBits (word / 256) ≡ take 8 (lineOrder (wordBits code))
+even-octet code word e =
+    ap (λ (n : ℕ). octetBits (n / 256)) (e ∙ ap (λ (l : List Bool). number (lineOrder l)) (word-bits code))
+    ∙ first-octet (lineOrder (wordBits code)) (length-line (wordBits code))
+
+odd-octet : (code word : ℕ) → word ≡ number (lineOrder (lowBits 16 (wordOf code))) → octetBits (word % 256) ≡ drop 8 (lineOrder (wordBits code))
+odd-octet code word e =
+    ap (λ (n : ℕ). octetBits (n % 256)) (e ∙ ap (λ (l : List Bool). number (lineOrder l)) (word-bits code))
+    ∙ second-octet (lineOrder (wordBits code)) (length-line (wordBits code))
+
+pub service-is : (h : Header) (rows : List (List Bool)) (i j word even odd : ℕ)
+    → rows ≡ serviceRows (h .a) (h .e) (h .t) (h .remainder)
+    → i ≡ evenFrame (h .block) .0 → j ≡ oddFrame (h .block) .0
+    → word ≡ number (lineOrder (lowBits 16 (wordOf (h .code))))
+    → lowBits 16 even ≡ getD rows i [] ++ octetBits (word / 256)
+    → lowBits 16 odd ≡ getD rows j [] ++ octetBits (word % 256)
+    → lowBits 16 even ++ lowBits 16 odd ≡ serviceBits h
+unfolding serviceBits
+service-is h rows i j word even odd er ei ej ew ee eo =
+    let all = serviceRows (h .a) (h .e) (h .t) (h .remainder) in
+    let line = lineOrder (wordBits (h .code)) in
+    ap₂ _++_
+    (ee ∙ ap₂ _++_ (ap₂ (λ (l : List (List Bool)) (k : ℕ). getD l k []) er ei) (even-octet (h .code) word ew))
+    (eo ∙ ap₂ _++_ (ap₂ (λ (l : List (List Bool)) (k : ℕ). getD l k []) er ej) (odd-octet (h .code) word ew))
+    ∙ sym (append-assoc (getD all (evenFrame (h .block) .0) [] ++ take 8 line) (getD all (oddFrame (h .block) .0) []) (drop 8 line))
+
+-- ---- the block by its layout
+pub block-is : (m : Mode) (h : Header) (mute : Bool) (voice lsd : List ℕ)
+    → octets 160 (fill (rowsBy (layoutOf m) 80 ++ rowsBy (layoutOf m) 80) (sources h mute voice lsd)) ≡ blockOf m h mute voice lsd
+unfolding blockOf places
+block-is m h mute voice lsd = ap (λ (ps : List Owner). octets 160 (fill (ps ++ ps) (sources h mute voice lsd))) (sym (rows-are m 80))
+
+-- ---- lengths
+pub no-line : (line voice lsd : ℕ) → (line ≡ 160 → ⊥) → fitting line voice lsd ≡ false
+unfolding fitting
+no-line line voice lsd h = rw (ne-eqb line 160 h)
+
+pub no-voice-buffer : (line voice lsd : ℕ) → line ≡ 160 → (voice ≡ 140 → ⊥) → fitting line voice lsd ≡ false
+unfolding fitting
+no-voice-buffer line voice lsd e h = rw (eq-eqb line 160 e, ne-eqb voice 140 h)
+
+pub no-lsd-buffer : (line voice lsd : ℕ) → line ≡ 160 → voice ≡ 140 → (lsd ≡ 156 → ⊥) → fitting line voice lsd ≡ false
+unfolding fitting
+no-lsd-buffer line voice lsd e f h = rw (eq-eqb line 160 e, eq-eqb voice 140 f, ne-eqb lsd 156 h)
+
+pub all-fit : (line voice lsd : ℕ) → line ≡ 160 → voice ≡ 140 → lsd ≡ 156 → fitting line voice lsd ≡ true
+unfolding fitting
+all-fit line voice lsd e f g = rw (eq-eqb line 160 e, eq-eqb voice 140 f, eq-eqb lsd 156 g)
+
+-- what a call tells, by whether its lengths fit
+pub told : (m : Mode) (h : Header) (mute : Bool) (voice lsd line : List ℕ) (b : Bool) → fitting (length line) (length voice) (length lsd) ≡ b
+    → (b ≡ fitting (length line) (length voice) (length lsd)) × (cond b (blockOf m h mute voice lsd) line ≡ lineAfter m h mute voice lsd line)
+unfolding lineAfter
+told m h mute voice lsd line b e = (sym e, ap (λ (t : Bool). cond t (blockOf m h mute voice lsd) line) (sym e))
+
+-- ---- silence: with mute set, or with no audio in force, a block does not depend on the voice
+pub silent-muted : (m : Mode) (h : Header) (voice other lsd : List ℕ) → blockOf m h true voice lsd ≡ blockOf m h true other lsd
+unfolding blockOf
+silent-muted m h voice other lsd = refl
+
+no-voice-places : (m : Mode) → (layoutOf m) .width ≡ 0 → count Voice (places m ++ places m) ≡ 0
+unfolding places
+no-voice-places m e =
+    let none : count Voice (rows m 80) ≡ 0 = ap (count Voice) (rows-are m 80) ∙ count-voice (layoutOf m) 80 ∙ ap (λ (w : ℕ). 80 * w) e in
+    count-append Voice (rows m 80) (rows m 80) ∙ ap₂ _+_ none none
+
+pub silent-off : (m : Mode) (h : Header) (mute : Bool) (voice other lsd : List ℕ) → (layoutOf m) .width ≡ 0
+    → blockOf m h mute voice lsd ≡ blockOf m h mute other lsd
+unfolding blockOf
+silent-off m h mute voice other lsd e =
+    ap (octets 160) (fill-agree (places m ++ places m) (sources h mute voice lsd) (sources h mute other lsd) agree)
+  where
+    agree : (o : Owner) (k : ℕ) → k < count o (places m ++ places m) → getD (sources h mute voice lsd o) k true ≡ getD (sources h mute other lsd o) k true
+    agree Service k l = refl
+    agree Voice k l = absurd (omega (arith, no-voice-places m e))
+    agree Lsd k l = refl
+    agree Nobody k l = refl

@@ -1,0 +1,34 @@
+-- `frame::service_word` meets its contract: two octets, one above the other.
+use mathlib.Core.Path.{_≡_, refl, sym, ap, ap₂, _∙_, subst}
+use mathlib.Core.Bool.{Bool}
+use mathlib.Core.List.{List, _++_}
+use Prim.Native.Nat.{ℕ, zero, suc, _+_, _-_, _*_, _/_, _%_, _^_, _<_, _≤_, min}
+use lib.ListN.{length}
+use Rattle.bits.specs.Bits.{octetBits, number}
+use Rattle.bits.proofs.BitLaws.{lowBits-two, lowBits-back}
+use borrow.Author.Needs.{needs}
+use Rattle.frame.proofs.service_word.Statement.{statement}
+use Rattle.frame.proofs.service_word.Tie as tie
+
+octet-requires : tie.Need-octet-requires
+octet-requires c κs = search needs
+
+cast-result : tie.Need-cast-result
+cast-result c = search needs
+
+mul-result : tie.Need-mul-result
+mul-result c = search needs
+
+add-result : tie.Need-add-result
+add-result c = search needs
+
+returns : tie.Need-returns
+returns c =
+    let a = c .before .args in
+    let small : a .half < 256 = search needs in
+    let eight : length (a .row) ≡ 8 = search needs in
+    lowBits-two (c .octet .result) (a .half) small
+    ∙ ap (λ (l : List Bool). l ++ octetBits (a .half)) (ap octetBits (c .octet .ensures) ∙ lowBits-back 8 (a .row) eight)
+
+pub service-word-spec : {M : Type 1} → statement M
+service-word-spec = tie.close (tie.spec octet-requires cast-result mul-result add-result returns)

@@ -1,0 +1,79 @@
+-- `frame::write_block` meets its contract: by which length does not fit, or by the block's law.
+use mathlib.Core.Path.{_≡_, refl, sym, ap, ap₂, _∙_, subst}
+use mathlib.Core.Bool.{Bool, true, false, cond}
+use mathlib.Core.List.{List, _++_}
+use Prim.Native.Nat.{ℕ, zero, suc, _+_, _-_, _*_, _/_, _%_, _^_, _<_, _≤_, min}
+use native.Mathlib.Omega.{arith}
+use denote.Ref.{now}
+use lib.ListN.{length}
+use Rattle.bits.specs.Bits.{bitsOf, octets}
+use Rattle.frame.specs.Streams.{fill}
+use Rattle.frame.specs.Block.{heard, streams}
+use Rattle.frame.specs.Layout.{rowsBy}
+use Rattle.frame.specs.declared.Layout.{Layout}
+use Rattle.frame.proofs.BlockLaws.{no-line, no-voice-buffer, no-lsd-buffer, all-fit, told, block-is}
+use Rattle.frame.proofs.LayoutLaws.{apart-of}
+use borrow.Author.Needs.{needs}
+use Rattle.frame.proofs.write_block.Statement.{statement}
+use Rattle.frame.proofs.write_block.Tie as tie
+
+returns : tie.Need-returns
+returns c = 
+    let a = c .before .before .before .before .args in
+    told (a .mode) (a .header) (a .mute) (now (a .voice)) (now (a .lsd)) (now (a .line)) false (no-line _ _ _ (c .if1 .taken))
+
+returns-2 : tie.Need-returns-2
+returns-2 c = 
+    let a = c .before .before .before .before .before .args in
+    told (a .mode) (a .header) (a .mute) (now (a .voice)) (now (a .lsd)) (now (a .line)) false (no-voice-buffer _ _ _ (c .before .if1 .left) (c .if2 .taken))
+
+returns-3 : tie.Need-returns-3
+returns-3 c = 
+    let a = c .before .before .before .before .before .before .args in
+    told (a .mode) (a .header) (a .mute) (now (a .voice)) (now (a .lsd)) (now (a .line)) false (no-lsd-buffer _ _ _ (c .before .before .if1 .left) (c .before .if2 .left) (c .if3 .taken))
+
+layout-of-requires : tie.Need-layout-of-requires
+layout-of-requires c κs = search needs
+
+service-of-requires : tie.Need-service-of-requires
+service-of-requires c κs = search needs
+
+fill-block-requires : tie.Need-fill-block-requires
+fill-block-requires c κs = (
+      c .before .before .before .before .before .if1 .left,
+      record {
+        apart = rw (c .before .before .layout-of .ensures) (apart-of (c .before .before .before .before .before .before .before .before .before .args .mode));
+        spoken = c .before .before .before .before .if2 .left;
+        given = c .before .before .before .if3 .left;
+        from = omega arith;
+        on = omega arith;
+      },
+    )
+
+same-length : tie.Need-same-length
+same-length c = search needs
+
+returns-4 : tie.Need-returns-4
+returns-4 c = 
+    let a = c .before .before .before .before .before .before .before .before .before .before .before .before .args in
+    let said = told (a .mode) (a .header) (a .mute) (now (a .voice)) (now (a .lsd)) (now (a .line)) true (all-fit _ _ _ (c .before .before .before .before .before .before .before .before .if1 .left) (c .before .before .before .before .before .before .before .if2 .left) (c .before .before .before .before .before .before .if3 .left)) in (
+      said .0,
+      c .before .before .fill-block .ensures
+          ∙ ap₂ (λ (p : Layout) (bits : List Bool). octets 160 (fill (rowsBy p 80 ++ rowsBy p 80) (streams bits (heard (a .mute) (bitsOf (now (a .voice)))) (bitsOf (now (a .lsd))))))
+          (c .before .before .before .before .before .layout-of .ensures) (c .before .before .before .service-of .ensures)
+          ∙ block-is (a .mode) (a .header) (a .mute) (now (a .voice)) (now (a .lsd))
+          ∙ said .1,
+    )
+
+pub write-block-spec : {M : Type 1} → statement M
+write-block-spec =
+    tie.close
+    (tie.spec
+    returns
+    returns-2
+    returns-3
+    layout-of-requires
+    service-of-requires
+    fill-block-requires
+    same-length
+    returns-4)
