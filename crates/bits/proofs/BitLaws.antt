@@ -136,7 +136,7 @@ number-bound [] = omega arith
 number-bound (true ∷ bs) = omega (arith, number-bound bs, pow-suc 2 (length bs))
 number-bound (false ∷ bs) = omega (arith, number-bound bs, pow-suc 2 (length bs))
 
-odd-above : (a q : ℕ) → odd (a * 2 + q) ≡ odd q
+pub odd-above : (a q : ℕ) → odd (a * 2 + q) ≡ odd q
 unfolding odd
 odd-above a q = ap (λ (r : ℕ). eqb r 1) (mul-add-mod-self-right a 2 q)
 

@@ -9,7 +9,7 @@ use lib.Pow.{high, low}
 use lib.ListN.{length, getD, take, drop, length-append, length-drop, length-take, take-append-drop}
 use lib.Seq.{drop-drop, getD-drop, drop-nil, drop-append-add, drop-append-le, take-append-le}
 use Rattle.bits.specs.Bits.{lowBits, octetBits, bitsOf, number}
-use Rattle.bits.proofs.BitLaws.{length-lowBits, length-bitsOf, number-append, number-bound, number-fits}
+use Rattle.bits.proofs.BitLaws.{length-lowBits, number-append, number-bound, number-fits}
 
 -- the number of the bits in the middle of a list
 pub part : (ps ms rs : List Bool) → number (ps ++ (ms ++ rs)) / 2 ^ length rs % 2 ^ length ms ≡ number ms

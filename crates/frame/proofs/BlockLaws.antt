@@ -1,25 +1,22 @@
 -- Laws of a block: its service bits, its definition by a layout, lengths that do not fit, and that a silent block does not hear the voice.
 use mathlib.Core.Path.{_≡_, refl, ap, ap₂, sym, _∙_}
-use mathlib.Core.Bool.{Bool, true, false, cond, _&&_, and-false}
+use mathlib.Core.Bool.{Bool, true, false, cond}
 use mathlib.Core.List.{List, [], _++_, append-assoc}
 use Prim.Native.Nat.{ℕ, _+_, _*_, _/_, _%_, _<_}
-use native.Mathlib.Nat.{mul-zero}
 use native.Mathlib.Omega.{arith}
 use borrow.Author.Tests.{eq-eqb, ne-eqb}
-use lib.Dec.{eqb}
 use lib.ListN.{length, getD, take, drop}
-use Rattle.bits.specs.Bits.{lowBits, octetBits, bitsOf, number, octets}
+use Rattle.bits.specs.Bits.{lowBits, octetBits, number, octets}
 use Rattle.bits.proofs.BitLaws.{lowBits-back, first-octet, second-octet}
 use Rattle.bas.specs.Words.{wordBits, wordOf, lineOrder}
 use Rattle.bas.proofs.WordLaws.{length-wordBits, length-line}
 use Rattle.modes.specs.Numbers.{evenFrame, oddFrame}
-use Rattle.modes.specs.Owners.{heldBy}
 use Rattle.modes.specs.declared.Mode.{Mode}
 use Rattle.modes.specs.declared.Owner.{Owner}
 use Rattle.modes.specs.declared.Owner.the-variants.{Service, Voice, Lsd, Nobody}
 use Rattle.frame.specs.Streams.{count, fill}
 use Rattle.frame.specs.Service.{serviceRows}
-use Rattle.frame.specs.Block.{rows, places, serviceBits, heard, streams, sources, blockOf, fitting, lineAfter}
+use Rattle.frame.specs.Block.{rows, places, serviceBits, sources, blockOf, fitting, lineAfter}
 use Rattle.frame.specs.Layout.{layoutOf, rowsBy}
 use Rattle.frame.specs.declared.Header.{Header}
 use Rattle.frame.proofs.StreamLaws.{fill-agree, count-append}

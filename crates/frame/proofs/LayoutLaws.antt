@@ -6,20 +6,20 @@ use Prim.Native.Nat.{ℕ, zero, suc, _+_, _-_, _*_, _≤_, _<_, min}
 use native.Mathlib.Nat.{zero-mul, suc-mul}
 use native.Mathlib.Omega.{arith}
 use lib.Dec.{eqb, leb, lit<}
-use borrow.Author.Tests.{leb-true, leb-false, eqb-true, le-leb, lt-leb, ne-eqb}
+use borrow.Author.Tests.{leb-true, leb-false, eqb-true, le-leb, ne-eqb}
 use lib.ListN.{length, replicate, length-append, length-replicate}
 use Rattle.bits.proofs.Every.{and-left, and-right, everyBelow, below}
-use Rattle.modes.specs.Table.{audioPlaces, lsdPlaces}
+use Rattle.modes.specs.Table.{lsdPlaces}
 use Rattle.modes.specs.Owners.{within, holds, heldBy, ownerOf}
 use Rattle.modes.specs.declared.Mode.{Mode}
 use Rattle.modes.specs.declared.Owner.{Owner}
 use Rattle.modes.specs.declared.Owner.the-variants.{Service, Voice, Lsd, Nobody}
-use Rattle.modes.proofs.TableLaws.{Fit, audio-fit, lsd-fit, audio-shape, lsd-shape}
+use Rattle.modes.proofs.TableLaws.{audio-fit, lsd-fit, audio-shape, lsd-shape}
 use Rattle.frame.specs.Streams.{rank, same, count}
 use Rattle.frame.specs.Block.{row, rows}
 use Rattle.frame.specs.Layout.{layoutOf, columnsBy, channelBy, rowBy, rowsBy, sc, Apart}
 use Rattle.frame.specs.declared.Layout.{Layout}
-use Rattle.frame.proofs.StreamLaws.{rank-inj, same-or, count-append, count-all, count-none}
+use Rattle.frame.proofs.StreamLaws.{rank-inj, count-append, count-all, count-none}
 
 -- ---- octet bits 1 to 7: for each width and each first bit of data, a test that antt computes
 sameOwners : List Owner → List Owner → Bool

@@ -1,15 +1,15 @@
 -- The number of an octet of a frame: voice, nobody's ones, data and the service channel's bit, put together.
-use mathlib.Core.Path.{_≡_, refl, ap, ap₂, sym, _∙_}
+use mathlib.Core.Path.{_≡_, refl, ap, ap₂, _∙_}
 use mathlib.Core.Bool.{Bool, true, false, cond}
 use mathlib.Core.List.{List, [], _∷_, _++_}
 use Prim.Native.Nat.{ℕ, zero, suc, _+_, _-_, _*_, _^_, _≤_, _<_, min}
 use native.Mathlib.Nat.{zero-add, add-zero, pow-succ', one-mul, mul-one, mul-le-mul, suc-mul}
 use native.Mathlib.Omega.{arith}
-use borrow.Author.Tests.{leb-true, leb-false, le-leb, lt-leb}
+use borrow.Author.Tests.{leb-true, le-leb, lt-leb}
 use lib.Dec.{leb}
 use lib.Pow.{pow-pos, pow-mono}
-use lib.ListN.{length, getD, drop, replicate}
-use lib.Seq.{drop-nil, drop-drop}
+use lib.ListN.{getD, drop, replicate}
+use lib.Seq.{drop-nil}
 use Rattle.bits.specs.Bits.{digit, number}
 use Rattle.bits.proofs.BitLaws.{number-append, number-bound}
 use Rattle.modes.specs.declared.Owner.{Owner}

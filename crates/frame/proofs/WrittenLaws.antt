@@ -2,14 +2,16 @@
 use mathlib.Core.Path.{_≡_, refl, ap, sym, _∙_, fun-ext}
 use mathlib.Core.Bool.{Bool, true}
 use mathlib.Core.List.{List, [], _∷_, _++_, append-nil}
-use Prim.Native.Nat.{ℕ, suc, _+_, _-_, _*_, _≤_, _<_, min}
+use Prim.Native.Nat.{ℕ, zero, suc, _+_, _-_, _*_, _≤_, _<_}
+use mathlib.Core.Logic.{⊎-elim}
+use native.Mathlib.Nat.{add-zero, eq-or-lt-of-le, le-of-suc-le-suc}
 use native.Mathlib.Numerals.{add-one}
 use native.Mathlib.Omega.{arith}
 use borrow.Rule.Slice.PartMut.{putMid}
 use lib.ListN.{length, getD, List·getD-append, drop, set, length-append, drop-of-length-le}
-use lib.Seq.{drop-nil, drop-at, take-at, set-at, drop-cons, append-snoc}
+use lib.Seq.{drop-nil, drop-at, take-at, set-at, drop-cons, append-snoc, getD-append-add}
 use Rattle.bits.specs.Bits.{number, octets}
-use Rattle.bits.proofs.PackLaws.{octets-append, octets-one}
+use Rattle.bits.proofs.PackLaws.{length-octets, octets-append, octets-one}
 use Rattle.modes.specs.declared.Owner.{Owner}
 use Rattle.modes.specs.declared.Owner.the-variants.{Service, Voice, Lsd, Nobody}
 use Rattle.frame.specs.Streams.{Streams, count, rest, fill}
@@ -66,13 +68,35 @@ even-half p es os vs ds he = ap (octets 80) (fill-agree (rowsBy p 80) (streams (
     same-bits Nobody k l = refl
 
 -- and the odd one the rest of every stream
-pub odd-half : (p : Layout) (es os vs ds : List Bool) → Apart p → length es ≡ 16
-    → rest (rowsBy p 80) (streams (es ++ os) vs ds) ≡ streams os (drop (80 * p .width) vs) (drop (80 * p .columns + sc p 80) ds)
+pub rest-frame : (p : Layout) (bs vs ds : List Bool) → Apart p
+    → rest (rowsBy p 80) (streams bs vs ds) ≡ streams (drop 16 bs) (drop (80 * p .width) vs) (drop (80 * p .columns + sc p 80) ds)
 unfolding rest
-odd-half p es os vs ds h he = fun-ext at
+rest-frame p bs vs ds h = fun-ext at
   where
-    at : (o : Owner) → rest (rowsBy p 80) (streams (es ++ os) vs ds) o ≡ streams os (drop (80 * p .width) vs) (drop (80 * p .columns + sc p 80) ds) o
-    at Service = rw (count-service p 80) (drop-at es os 16 he)
+    at : (o : Owner) → rest (rowsBy p 80) (streams bs vs ds) o ≡ streams (drop 16 bs) (drop (80 * p .width) vs) (drop (80 * p .columns + sc p 80) ds) o
+    at Service = rw (count-service p 80)
     at Voice = rw (count-voice p 80)
     at Lsd = rw (count-lsd p 80 h)
     at Nobody = drop-nil (count Nobody (rowsBy p 80))
+
+pub odd-half : (p : Layout) (es os vs ds : List Bool) → Apart p → length es ≡ 16
+    → rest (rowsBy p 80) (streams (es ++ os) vs ds) ≡ streams os (drop (80 * p .width) vs) (drop (80 * p .columns + sc p 80) ds)
+odd-half p es os vs ds h he =
+    rest-frame p (es ++ os) vs ds h
+    ∙ ap (λ (l : List Bool). streams l (drop (80 * p .width) vs) (drop (80 * p .columns + sc p 80) ds)) (drop-at es os 16 he)
+
+-- ---- an octet of what was written
+pub octet-done : (p : Layout) (s : Streams) (n o : ℕ) → p .width + p .columns ≤ 7 → o < n
+    → getD (done p s n) o 0 ≡ number (fill (rowBy p (o + 1)) (rest (rowsBy p o) s))
+octet-done p s zero o h l = absurd (omega arith)
+octet-done p s (suc n) o h l =
+    let x = number (fill (rowBy p (n + 1)) (rest (rowsBy p n) s)) in
+    let more : done p s (suc n) ≡ done p s n ++ (x ∷ []) = ap (done p s) (sym (add-one n)) ∙ done-more p s n h in
+    let len : length (done p s n) ≡ n = length-octets n (fill (rowsBy p n) s) in
+    ap (λ (l : List ℕ). getD l o 0) more
+    ∙ ⊎-elim
+    (λ e. ap (λ (k : ℕ). getD (done p s n ++ (x ∷ [])) k 0) (e ∙ sym len ∙ sym (add-zero (length (done p s n))))
+    ∙ getD-append-add (done p s n) (x ∷ []) 0 0
+    ∙ ap (λ (k : ℕ). number (fill (rowBy p (k + 1)) (rest (rowsBy p k) s))) (sym e))
+    (λ i. List·getD-append (done p s n) (x ∷ []) 0 o (rw len i) ∙ octet-done p s n o h i)
+    (eq-or-lt-of-le (le-of-suc-le-suc l))

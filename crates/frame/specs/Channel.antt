@@ -1,9 +1,9 @@
 -- Document 01, 'Service bits 1 to 8 of each frame', 'CRC-4' and 'Reading a block': the service channel of a block that came.
-use mathlib.Core.Bool.{Bool, true, false, xor}
+use mathlib.Core.Bool.{Bool, true}
 use mathlib.Core.List.{List, [], _∷_, _++_}
 use Prim.Native.Nat.{ℕ, zero, suc, _+_}
 use lib.ListN.{getD}
-use Rattle.bits.specs.Bits.{odd, digit, number, xors}
+use Rattle.bits.specs.Bits.{odd, number, xors}
 use Rattle.bas.specs.Words.{lineOrder}
 use Rattle.bas.specs.Reading.{weight}
 use Rattle.frame.specs.Service.{evenAlignment}

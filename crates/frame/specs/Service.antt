@@ -1,6 +1,6 @@
 -- Document 01, 'Service bits 1 to 8 of each frame'.
 use mathlib.Core.Bool.{Bool, true, false}
-use mathlib.Core.List.{List, [], _∷_, _++_}
+use mathlib.Core.List.{List, [], _∷_}
 use Prim.Native.Nat.{ℕ}
 use Rattle.bits.specs.Bits.{lowBits}
 

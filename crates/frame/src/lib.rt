@@ -1,14 +1,16 @@
 // The frames of a block: service rows, the writer, and what the service channel of a block says (document 01).
 ghost use mathlib.Core.Path.{_≡_};
 ghost use mathlib.Core.Bool.{true};
-ghost use mathlib.Core.List.{List, [], _++_};
-ghost use Prim.Native.Nat.{_+_, _-_, _*_, _^_, _<_, _≤_, min};
+ghost use mathlib.Core.List.{[], _++_};
+ghost use Prim.Native.Nat.{_+_, _-_, _*_, _^_, _<_, _≤_};
 ghost use lib.ListN.{length, getD, drop};
-ghost use Rattle.bits.specs.Bits.{bitsOf, lowBits, octetBits, digit, number, octets};
+ghost use Rattle.bits.specs.Bits.{odd, bitsOf, lowBits, octetBits, digit, number, octets};
 ghost use Rattle.frame.specs.Streams.{nexts, fill, rest};
 ghost use Rattle.frame.specs.Service.{serviceRows};
 ghost use Rattle.frame.specs.Block.{serviceBits, heard, streams, fitting, lineAfter};
-ghost use Rattle.frame.specs.Layout.{layoutOf, channelBy, rowBy, rowsBy, sc, Apart, Ready, frameSources, frameBy};
+ghost use Rattle.bas.specs.Reading.{weight};
+ghost use Rattle.frame.specs.Channel.{channelBits, wrongBits, oddFirst, cBits, basWord};
+ghost use Rattle.frame.specs.Layout.{layoutOf, channelBy, rowBy, rowsBy, sc, Ready, frameSources, frameBy};
 use modes::BlockNumber;
 use modes::Mode;
 use modes::Owner;
@@ -279,4 +281,71 @@ pub fn write_block(
     let p = layout_of(mode);
     fill_block(line, p, service_of(header), mute, voice, lsd);
     true
+}
+
+// The SC bit of the octet at a place, counted from 0; 0 past the end.
+fn sc_bit(line: &[u8], at: usize) -> u8
+    ensures { λ r. ⌜ (r ≡ digit (odd (getD (now (line .entry)) at 0))) × (r ≤ 1) ⌝ }
+{
+    if at < line.len() {
+        return line[at] % 2;
+    }
+    0
+}
+
+// The number of n SC bits, eight at most, from a place on.
+fn channel(line: &[u8], at: usize, n: usize) -> u8
+    requires { ⌜ (n ≤ 8) × (at ≤ 88) ⌝ }
+    ensures { λ r. ⌜ r ≡ number (channelBits n at (now (line .entry))) ⌝ }
+{
+    let mut sum: u8 = 0;
+    for i in 0..n {
+        sum = sum * 2 + sc_bit(line, at + i);
+    }
+    sum
+}
+
+// How many bits of an octet are 1.
+fn weight_of(octet: u8) -> u8
+    ensures { λ r. ⌜ r ≡ weight (octetBits octet) ⌝ }
+{
+    octet / 128 % 2
+        + octet / 64 % 2
+        + octet / 32 % 2
+        + octet / 16 % 2
+        + octet / 8 % 2
+        + octet / 4 % 2
+        + octet / 2 % 2
+        + octet % 2
+}
+
+// How many of the eight bits of a block's alignment word are wrong: 0011011 in the even frame and 1 in the odd one.
+pub fn wrong_bits(line: &[u8]) -> u8
+    ensures { λ r. ⌜ r ≡ wrongBits (now (line .entry)) ⌝ }
+{
+    let word = channel(line, 1, 7) * 2 + sc_bit(line, 81);
+    weight_of(word ^ 0b0011_0111)
+}
+
+// The odd frame's first bit.
+pub fn odd_first(line: &[u8]) -> bool
+    ensures { λ r. ⌜ r ≡ oddFirst (now (line .entry)) ⌝ }
+{
+    sc_bit(line, 80) == 1
+}
+
+// C1 to C4, C1 highest.
+pub fn c_bits(line: &[u8]) -> u8
+    ensures { λ r. ⌜ r ≡ cBits (now (line .entry)) ⌝ }
+{
+    channel(line, 84, 4)
+}
+
+// The BAS word, back in its natural order.
+pub fn bas_word(line: &[u8]) -> u16
+    ensures { λ r. ⌜ r ≡ basWord (now (line .entry)) ⌝ }
+{
+    let even = channel(line, 8, 8);
+    let odd = channel(line, 88, 8);
+    bas::line_order((even as u16) * 256 + (odd as u16))
 }

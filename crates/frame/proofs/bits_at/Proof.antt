@@ -1,8 +1,8 @@
 -- `frame::bits_at` meets its contract: a run of eight bits at most lies within two octets.
-use mathlib.Core.Path.{_≡_, refl, sym, ap, ap₂, _∙_, subst}
-use Prim.Native.Nat.{ℕ, zero, suc, _+_, _-_, _*_, _/_, _%_, _^_, _<_, _≤_, min}
+use mathlib.Core.Path.{sym, ap, _∙_}
+use Prim.Native.Nat.{_-_, _≤_}
 use native.Mathlib.Omega.{arith}
-use Rattle.bits.specs.Bits.{odd, lowBits, octetBits, bitsOf, digit, number, zeros, octets}
+use Rattle.bits.specs.Bits.{bitsOf, number}
 use denote.Ref.{now}
 use lib.Pow.{pow-pos}
 use lib.ListN.{length, drop, length-drop}

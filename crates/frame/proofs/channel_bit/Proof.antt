@@ -1,11 +1,9 @@
 -- `frame::channel_bit` meets its contract: a law of the channel for each answer.
-use mathlib.Core.Path.{_≡_, refl, sym, ap, ap₂, _∙_, subst}
-use mathlib.Core.Bool.{Bool, true, false, cond}
-use Prim.Native.Nat.{ℕ, zero, suc, _+_, _-_, _*_, _/_, _%_, _^_, _<_, _≤_, min}
+use mathlib.Core.Path.{_≡_, _∙_}
+use mathlib.Core.Bool.{true}
+use Prim.Native.Nat.{_+_, _-_}
 use native.Mathlib.Omega.{arith}
-use Rattle.bits.specs.Bits.{odd, lowBits, octetBits, bitsOf, digit, number, zeros, octets}
-use denote.Ref.{now}
-use lib.ListN.{getD, drop}
+use Rattle.bits.specs.Bits.{lowBits}
 use lib.Seq.{getD-drop}
 use native.Mathlib.Nat.{add-zero}
 use Rattle.bits.proofs.BitLaws.{digit-odd, getD-lowBits}

@@ -1,15 +1,15 @@
 -- `frame::fill_block` meets its contract: the law of two frames, at what the two calls leave in the two halves.
-use mathlib.Core.Path.{_≡_, refl, sym, ap, ap₂, _∙_, subst}
-use mathlib.Core.List.{List, [], _∷_, _++_}
-use Prim.Native.Nat.{ℕ, zero, suc, _+_, _-_, _*_, _/_, _%_, _^_, _<_, _≤_, min}
+use mathlib.Core.Path.{_≡_, sym, ap, ap₂, _∙_}
+use mathlib.Core.List.{_++_}
+use Prim.Native.Nat.{ℕ, _+_, _-_, _*_}
 use native.Mathlib.Omega.{arith}
 use denote.Ref.{now}
-use lib.ListN.{length, drop, take, length-append, length-take, length-drop}
+use lib.ListN.{length, drop, length-drop}
 use lib.Seq.{length-take-le}
 use Rattle.bits.specs.Bits.{lowBits, bitsOf}
 use Rattle.bits.proofs.BitLaws.{length-lowBits}
 use Rattle.frame.specs.Block.{heard, streams}
-use Rattle.frame.specs.Layout.{frameSources, frameBy}
+use Rattle.frame.specs.Layout.{frameBy}
 use Rattle.frame.proofs.WrittenLaws.{second-half, two-frames, even-half, odd-half}
 use borrow.Author.Needs.{needs}
 use Rattle.frame.proofs.fill_block.Statement.{statement}
@@ -58,7 +58,7 @@ same-length : tie.Need-same-length
 same-length c = search needs
 
 returns : tie.Need-returns
-returns c = 
+returns c =
     let s = c .before .before .before .before .before .before .before .before .before .before .before .before .before .before in
     let a = s .args in
     let even = c .before .before .before .before .before .before .write-frame in

@@ -1,13 +1,12 @@
 -- `frame::layout_of` meets its contract: each return by its test, and the table keeps its ranges.
-use mathlib.Core.Path.{_≡_, refl, sym, ap, ap₂, _∙_, subst}
-use Prim.Native.Nat.{ℕ, zero, suc, _+_, _-_, _*_, _/_, _%_, _^_, _<_, _≤_, min}
+use mathlib.Core.Path.{_≡_, ap, ap₂, _∙_}
+use Prim.Native.Nat.{ℕ, _-_, min}
 use native.Mathlib.Omega.{arith}
 use Rattle.frame.specs.Layout.{layoutOf}
 use Rattle.modes.specs.declared.Places.{Places}
 use Rattle.modes.specs.declared.Mode.{Mode}
-use Rattle.frame.specs.declared.Layout.{Layout}
 use Rattle.modes.specs.Owners.{heldBy}
-use Rattle.modes.proofs.TableLaws.{Fit, held-fit}
+use Rattle.modes.proofs.TableLaws.{held-fit}
 use Rattle.modes.specs.declared.Owner.the-variants.{Voice, Lsd}
 use borrow.Author.Needs.{needs}
 use Rattle.frame.proofs.layout_of.Statement.{statement}

@@ -1,5 +1,5 @@
 -- `frame::octet_at` meets its contract: an element of a slice of octets is below 256, and past the end stands 0.
-use mathlib.Core.Path.{_≡_, refl, sym, ap, ap₂, _∙_, subst}
+use mathlib.Core.Path.{refl, sym}
 use native.Mathlib.Omega.{arith}
 use lib.Dec.{lit<}
 use lib.ListN.{List·getD-eq-default}

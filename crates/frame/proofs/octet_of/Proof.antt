@@ -1,17 +1,17 @@
 -- `frame::octet_of` meets its contract: the law of an octet, at what its callees ensure.
-use mathlib.Core.Path.{_≡_, refl, sym, ap, ap₂, _∙_, subst}
-use mathlib.Core.Bool.{Bool, true, false, cond}
-use mathlib.Core.List.{List, [], _++_}
-use Prim.Native.Nat.{ℕ, zero, suc, _+_, _-_, _*_, _/_, _%_, _^_, _<_, _≤_, min}
+use mathlib.Core.Path.{_≡_, refl}
+use mathlib.Core.Bool.{Bool, true, false}
+use mathlib.Core.List.{[]}
+use Prim.Native.Nat.{_+_, _-_, _*_, _<_}
 use native.Mathlib.Omega.{arith}
-use Rattle.bits.specs.Bits.{odd, lowBits, octetBits, bitsOf, digit, number, zeros, octets}
+use Rattle.bits.specs.Bits.{lowBits, bitsOf, digit, number}
 use denote.Ref.{now}
-use lib.ListN.{length, getD, drop}
+use lib.ListN.{getD, drop}
 use lib.Seq.{drop-drop}
 use lib.Dec.{lit<}
-use Rattle.frame.specs.Streams.{nexts, fill, rest}
+use Rattle.frame.specs.Streams.{fill, rest}
 use Rattle.frame.specs.Block.{heard, streams}
-use Rattle.frame.specs.Layout.{rowBy, rowsBy, columnsBy, channelBy, sc, frameSources}
+use Rattle.frame.specs.Layout.{rowBy, rowsBy, channelBy, sc, frameSources}
 use Rattle.frame.proofs.OctetLaws.{before, nexts-lt, octet-lt, octet-at, channel-next}
 use borrow.Author.Needs.{needs}
 use Rattle.frame.proofs.octet_of.Statement.{statement}

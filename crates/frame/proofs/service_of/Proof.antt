@@ -1,6 +1,6 @@
 -- `frame::service_of` meets its contract: the law of service bits, at what its callees ensure.
-use mathlib.Core.Path.{_≡_, refl, sym, ap, ap₂, _∙_, subst}
-use Prim.Native.Nat.{ℕ, zero, suc, _+_, _-_, _*_, _/_, _%_, _^_, _<_, _≤_, min}
+use mathlib.Core.Path.{ap, _∙_}
+use Prim.Native.Nat.{ℕ, _-_}
 use native.Mathlib.Omega.{arith}
 use Rattle.bits.specs.Bits.{lowBits, number}
 use Rattle.bas.specs.Words.{lineOrder}
@@ -59,7 +59,7 @@ service-word-requires-2 : tie.Need-service-word-requires-2
 service-word-requires-2 c κs = search needs
 
 returns : tie.Need-returns
-returns c = 
+returns c =
     let h = c .before .before .before .before .before .before .before .before .before .before .before .before .args .header in
     let word = c .before .before .before .before in
     service-is h (c .before .before .before .before .before .before .before .before .before .before .before .service-rows .result) (c .before .before .before .before .before .before .before .before .before .even-frame .result .0) (c .before .before .before .before .before .before .before .odd-frame .result .0) (word .line-order .result)

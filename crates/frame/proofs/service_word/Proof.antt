@@ -1,10 +1,10 @@
 -- `frame::service_word` meets its contract: two octets, one above the other.
-use mathlib.Core.Path.{_≡_, refl, sym, ap, ap₂, _∙_, subst}
+use mathlib.Core.Path.{_≡_, ap, _∙_}
 use mathlib.Core.Bool.{Bool}
 use mathlib.Core.List.{List, _++_}
-use Prim.Native.Nat.{ℕ, zero, suc, _+_, _-_, _*_, _/_, _%_, _^_, _<_, _≤_, min}
+use Prim.Native.Nat.{_+_, _-_, _<_}
 use lib.ListN.{length}
-use Rattle.bits.specs.Bits.{octetBits, number}
+use Rattle.bits.specs.Bits.{octetBits}
 use Rattle.bits.proofs.BitLaws.{lowBits-two, lowBits-back}
 use borrow.Author.Needs.{needs}
 use Rattle.frame.proofs.service_word.Statement.{statement}

@@ -1,5 +1,5 @@
 -- `frame::voice_bits` meets its contract: a muted voice has no bits, and so ones go.
-use mathlib.Core.Path.{_≡_, refl, sym, ap, ap₂, _∙_, subst}
+use mathlib.Core.Path.{sym}
 use native.Mathlib.Omega.{arith}
 use lib.Pow.{pow-pos}
 use lib.Seq.{drop-nil}

@@ -1,11 +1,10 @@
 -- `frame::write_block` meets its contract: by which length does not fit, or by the block's law.
-use mathlib.Core.Path.{_≡_, refl, sym, ap, ap₂, _∙_, subst}
-use mathlib.Core.Bool.{Bool, true, false, cond}
+use mathlib.Core.Path.{ap₂, _∙_}
+use mathlib.Core.Bool.{Bool, true, false}
 use mathlib.Core.List.{List, _++_}
-use Prim.Native.Nat.{ℕ, zero, suc, _+_, _-_, _*_, _/_, _%_, _^_, _<_, _≤_, min}
+use Prim.Native.Nat.{_+_, _-_}
 use native.Mathlib.Omega.{arith}
 use denote.Ref.{now}
-use lib.ListN.{length}
 use Rattle.bits.specs.Bits.{bitsOf, octets}
 use Rattle.frame.specs.Streams.{fill}
 use Rattle.frame.specs.Block.{heard, streams}
@@ -18,17 +17,17 @@ use Rattle.frame.proofs.write_block.Statement.{statement}
 use Rattle.frame.proofs.write_block.Tie as tie
 
 returns : tie.Need-returns
-returns c = 
+returns c =
     let a = c .before .before .before .before .args in
     told (a .mode) (a .header) (a .mute) (now (a .voice)) (now (a .lsd)) (now (a .line)) false (no-line _ _ _ (c .if1 .taken))
 
 returns-2 : tie.Need-returns-2
-returns-2 c = 
+returns-2 c =
     let a = c .before .before .before .before .before .args in
     told (a .mode) (a .header) (a .mute) (now (a .voice)) (now (a .lsd)) (now (a .line)) false (no-voice-buffer _ _ _ (c .before .if1 .left) (c .if2 .taken))
 
 returns-3 : tie.Need-returns-3
-returns-3 c = 
+returns-3 c =
     let a = c .before .before .before .before .before .before .args in
     told (a .mode) (a .header) (a .mute) (now (a .voice)) (now (a .lsd)) (now (a .line)) false (no-lsd-buffer _ _ _ (c .before .before .if1 .left) (c .before .if2 .left) (c .if3 .taken))
 
@@ -40,21 +39,21 @@ service-of-requires c κs = search needs
 
 fill-block-requires : tie.Need-fill-block-requires
 fill-block-requires c κs = (
-      c .before .before .before .before .before .if1 .left,
-      record {
-        apart = rw (c .before .before .layout-of .ensures) (apart-of (c .before .before .before .before .before .before .before .before .before .args .mode));
-        spoken = c .before .before .before .before .if2 .left;
-        given = c .before .before .before .if3 .left;
-        from = omega arith;
-        on = omega arith;
-      },
-    )
+  c .before .before .before .before .before .if1 .left,
+  record {
+    apart = rw (c .before .before .layout-of .ensures) (apart-of (c .before .before .before .before .before .before .before .before .before .args .mode));
+    spoken = c .before .before .before .before .if2 .left;
+    given = c .before .before .before .if3 .left;
+    from = omega arith;
+    on = omega arith;
+  },
+)
 
 same-length : tie.Need-same-length
 same-length c = search needs
 
 returns-4 : tie.Need-returns-4
-returns-4 c = 
+returns-4 c =
     let a = c .before .before .before .before .before .before .before .before .before .before .before .before .args in
     let said = told (a .mode) (a .header) (a .mute) (now (a .voice)) (now (a .lsd)) (now (a .line)) true (all-fit _ _ _ (c .before .before .before .before .before .before .before .before .if1 .left) (c .before .before .before .before .before .before .before .if2 .left) (c .before .before .before .before .before .before .if3 .left)) in (
       said .0,
