@@ -1,9 +1,8 @@
-// Runs document 01's figures for bits, BAS words, codes and places, and the bit layouts that source document 001 publishes.
+// Runs document 01's figures for bits, BAS words, codes and places, and source document 001's table 2 and data rates.
 // What it prints is held to the file `stdout`, which is written from those two papers.
 use bas::Word;
 use libc::STDOUT_FILENO;
 use modes::Mode;
-use modes::OctetNumber;
 use modes::Owner;
 
 fn text(s: &[u8]) {
@@ -217,127 +216,6 @@ fn rates() {
     }
 }
 
-fn rank(owner: Owner) -> u8 {
-    match owner {
-        Owner::Service => 0,
-        Owner::Voice => 1,
-        Owner::Lsd => 2,
-        Owner::Nobody => 3,
-    }
-}
-
-// How a figure numbers the bits of a stream: from 1, from 0, or as code word and bit of G.728.
-enum Label {
-    FromOne,
-    FromZero,
-    CodeWord,
-}
-
-// A stream in a frame: its mode, its owner, and how its bits are numbered.
-struct Stream {
-    mode: Mode,
-    owner: Owner,
-    label: Label,
-}
-
-fn voice(audio: u8, label: Label) -> Stream {
-    Stream {
-        mode: Mode {
-            audio: audio,
-            lsd: 0,
-        },
-        owner: Owner::Voice,
-        label: label,
-    }
-}
-
-fn data(lsd: u8) -> Stream {
-    Stream {
-        mode: Mode {
-            audio: 31,
-            lsd: lsd,
-        },
-        owner: Owner::Lsd,
-        label: Label::FromOne,
-    }
-}
-
-fn is_owned(s: Stream, octet: u8, bit: u8) -> bool {
-    let owner = s.owner;
-    let mode = s.mode;
-    rank(modes::owner_of(mode, OctetNumber(octet), bit)) == rank(owner)
-}
-
-fn print_label(label: Label, k: u64) {
-    match label {
-        Label::FromOne => decimal(std::num::wrapping_add_u64(k, 1)),
-        Label::FromZero => decimal(k),
-        Label::CodeWord => {
-            decimal(k % 40 / 10);
-            decimal(9 - k % 10);
-        }
-    }
-}
-
-// A place of bit k of the stream, or of somebody else's; the bits up to and with it.
-fn print_place(s: Stream, octet: u8, bit: u8, k: u64) -> u64 {
-    let label = s.label;
-    if is_owned(s, octet, bit) {
-        text(b" ");
-        print_label(label, k);
-        return std::num::wrapping_add_u64(k, 1);
-    }
-    text(b" -");
-    k
-}
-
-fn print_places(s: Stream, octet: u8, k: u64) {
-    let mut next = k;
-    for bit in 1..9 {
-        next = print_place(s, octet, bit, next);
-    }
-    text(b"\n");
-}
-
-// The bits of the stream with those of one octet more.
-fn past(s: Stream, octet: u8, k: u64) -> u64 {
-    let mut next = k;
-    for bit in 1..9 {
-        if is_owned(s, octet, bit) {
-            next = std::num::wrapping_add_u64(next, 1);
-        }
-    }
-    next
-}
-
-fn past_all(s: Stream, octet: u8, k: u64) -> u64 {
-    let mut next = k;
-    for o in 1..octet {
-        next = past(s, o, next);
-    }
-    next
-}
-
-// Octet n of a block, counted from 1: the odd frame goes on where the even one ended.
-fn print_octet(s: Stream, n: u8) {
-    let mode = s.mode;
-    let owner = s.owner;
-    text(b"octet ");
-    decimal(n as u64);
-    if n <= 80 {
-        print_places(s, n, past_all(s, n, 0));
-        return;
-    }
-    let even = modes::bits_per_frame(mode, owner) as u64;
-    print_places(s, n - 80, past_all(s, n - 80, even));
-}
-
-fn print_octets(s: Stream, octets: &[u8]) {
-    for i in 0..octets.len() {
-        print_octet(s, octets[i]);
-    }
-}
-
 // Table 2: which bit of the word each place of the line carries.
 fn line_places() {
     for i in 0..8 {
@@ -362,28 +240,6 @@ fn bit_index(word: u16) -> u64 {
     at
 }
 
-fn layouts() {
-    text(b"table 2\n");
-    line_places();
-    text(b"figure 5a: 14.4 kbit/s data\n");
-    print_octets(data(7), &[1, 2, 8, 9, 10, 16, 17, 18, 80]);
-    text(b"figure 5b: 56 kbit/s data\n");
-    print_octets(data(13), &[1, 8, 9, 16, 17, 18, 80]);
-    text(b"figure 5c: 62.4 kbit/s data\n");
-    print_octets(data(14), &[1, 8, 9, 16, 17, 18, 19, 80]);
-    text(b"figure 5d-2: G.728 audio, code word and bit\n");
-    print_octets(
-        voice(29, Label::CodeWord),
-        &[1, 2, 3, 4, 5, 6, 7, 10, 11, 15, 16, 20, 21, 22, 79, 80],
-    );
-    text(b"figure 5d-3: G.729 audio\n");
-    print_octets(voice(11, Label::FromZero), &[1, 2, 3, 4, 5, 79, 80]);
-    text(b"figure 5d-5: G.722.1 audio at 32 kbit/s, both frames\n");
-    print_octets(voice(27, Label::FromOne), &[1, 2, 3, 4, 80, 81, 160]);
-    text(b"figure 6: 62.4 kbit/s\n");
-    print_octets(data(14), &[1, 2, 16, 17, 79, 80]);
-}
-
 fn main() {
     check(0x00);
     check(0x01);
@@ -406,5 +262,6 @@ fn main() {
     overlap(19, 5);
     overlap(24, 5);
     rates();
-    layouts();
+    text(b"table 2\n");
+    line_places();
 }

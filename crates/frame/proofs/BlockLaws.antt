@@ -1,12 +1,14 @@
 -- Laws of a block: its service bits, its definition by a layout, lengths that do not fit, and that a silent block does not hear the voice.
 use mathlib.Core.Path.{_≡_, refl, ap, ap₂, sym, _∙_}
-use mathlib.Core.Bool.{Bool, true, false, cond}
+use mathlib.Core.Bool.{Bool, true, false, cond, _&&_}
 use mathlib.Core.List.{List, [], _++_, append-assoc}
 use Prim.Native.Nat.{ℕ, _+_, _*_, _/_, _%_, _<_}
 use native.Mathlib.Omega.{arith}
-use borrow.Author.Tests.{eq-eqb, ne-eqb}
+use borrow.Author.Tests.{eqb-true}
+use lib.Dec.{eqb}
 use lib.ListN.{length, getD, take, drop}
 use Rattle.bits.specs.Bits.{lowBits, octetBits, number, octets}
+use Rattle.bits.proofs.Every.{and-left, and-right}
 use Rattle.bits.proofs.BitLaws.{lowBits-back, first-octet, second-octet}
 use Rattle.bas.specs.Words.{wordBits, wordOf, lineOrder}
 use Rattle.bas.proofs.WordLaws.{length-wordBits, length-line}
@@ -60,22 +62,15 @@ pub block-is : (m : Mode) (h : Header) (mute : Bool) (voice lsd : List ℕ)
 unfolding blockOf places
 block-is m h mute voice lsd = ap (λ (ps : List Owner). octets 160 (fill (ps ++ ps) (sources h mute voice lsd))) (sym (rows-are m 80))
 
--- ---- lengths
-pub no-line : (line voice lsd : ℕ) → (line ≡ 160 → ⊥) → fitting line voice lsd ≡ false
+-- ---- the three lengths, out of their test
+pub lengths : (line voice lsd : ℕ) → fitting line voice lsd ≡ true → (line ≡ 160) × (voice ≡ 140) × (lsd ≡ 156)
 unfolding fitting
-no-line line voice lsd h = rw (ne-eqb line 160 h)
-
-pub no-voice-buffer : (line voice lsd : ℕ) → line ≡ 160 → (voice ≡ 140 → ⊥) → fitting line voice lsd ≡ false
-unfolding fitting
-no-voice-buffer line voice lsd e h = rw (eq-eqb line 160 e, ne-eqb voice 140 h)
-
-pub no-lsd-buffer : (line voice lsd : ℕ) → line ≡ 160 → voice ≡ 140 → (lsd ≡ 156 → ⊥) → fitting line voice lsd ≡ false
-unfolding fitting
-no-lsd-buffer line voice lsd e f h = rw (eq-eqb line 160 e, eq-eqb voice 140 f, ne-eqb lsd 156 h)
-
-pub all-fit : (line voice lsd : ℕ) → line ≡ 160 → voice ≡ 140 → lsd ≡ 156 → fitting line voice lsd ≡ true
-unfolding fitting
-all-fit line voice lsd e f g = rw (eq-eqb line 160 e, eq-eqb voice 140 f, eq-eqb lsd 156 g)
+lengths line voice lsd e =
+    let two : (eqb line 160 && eqb voice 140) ≡ true = and-left (eqb line 160 && eqb voice 140) (eqb lsd 156) e in (
+      eqb-true line 160 (and-left (eqb line 160) (eqb voice 140) two),
+      eqb-true voice 140 (and-right (eqb line 160) (eqb voice 140) two),
+      eqb-true lsd 156 (and-right (eqb line 160 && eqb voice 140) (eqb lsd 156) e),
+    )
 
 -- what a call tells, by whether its lengths fit
 pub told : (m : Mode) (h : Header) (mute : Bool) (voice lsd line : List ℕ) (b : Bool) → fitting (length line) (length voice) (length lsd) ≡ b

@@ -21,11 +21,6 @@ use Rattle.frame.specs.declared.Layout.{Layout}
 use Rattle.frame.proofs.StreamLaws.{fill-append, fill-agree, length-fill}
 use Rattle.frame.proofs.LayoutLaws.{count-service, count-voice, count-lsd, length-row, length-rows}
 
--- one more element written: W k is what the first k elements are to be
-pub one-more : (W : ℕ → List ℕ) (f : List ℕ) (k x : ℕ) → length (W k) ≡ k → W (k + 1) ≡ W k ++ (x ∷ []) → k < length f
-    → set (W k ++ drop k f) k x ≡ W (k + 1) ++ drop (k + 1) f
-one-more W f k x hl hw hk = rw (hw, add-one k, drop-cons f k 0 hk, set-at (W k) _ _ x k hl) (sym (append-snoc (W k) x (drop (suc k) f)))
-
 -- a frame's first n octets, and one more
 abbrev pub done : Layout → Streams → ℕ → List ℕ
 done p s n = octets n (fill (rowsBy p n) s)

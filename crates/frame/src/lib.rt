@@ -257,6 +257,13 @@ fn fill_block(line: &mut [u8], p: Layout, service: Service, mute: bool, voice: &
     write_frame(&mut line[80..], p, service.odd, mute, voice, 80 * w, lsd, d);
 }
 
+// A line block is 160 octets, a voice buffer 140, a data buffer 156.
+pub fn lengths_fit(line: usize, voice: usize, lsd: usize) -> bool
+    ensures { λ r. ⌜ r ≡ fitting line voice lsd ⌝ }
+{
+    (line == 160) & (voice == 140) & (lsd == 156)
+}
+
 // Writes a block into a line of 160 octets, from 140 octets of voice and 156 of data. Where a length is wrong nothing is written,
 // and the answer is false.
 pub fn write_block(
@@ -269,13 +276,7 @@ pub fn write_block(
 ) -> bool
     ensures { λ r. ⌜ (r ≡ fitting (length (now (line .entry))) (length (now (voice .entry))) (length (now (lsd .entry)))) × (now (line .exit) ≡ lineAfter mode header mute (now (voice .entry)) (now (lsd .entry)) (now (line .entry))) ⌝ }
 {
-    if line.len() != 160 {
-        return false;
-    }
-    if voice.len() != 140 {
-        return false;
-    }
-    if lsd.len() != 156 {
+    if !lengths_fit(line.len(), voice.len(), lsd.len()) {
         return false;
     }
     let p = layout_of(mode);

@@ -1,35 +1,30 @@
--- `frame::write_block` meets its contract: by which length does not fit, or by the block's law.
-use mathlib.Core.Path.{ap₂, _∙_}
-use mathlib.Core.Bool.{Bool, true, false}
+-- `frame::write_block` meets its contract: by whether the lengths fit, and by the block's law.
+use mathlib.Core.Path.{_≡_, refl, sym, ap, ap₂, _∙_, subst}
+use mathlib.Core.Bool.{Bool, true, false, cond}
 use mathlib.Core.List.{List, _++_}
-use Prim.Native.Nat.{_+_, _-_}
+use Prim.Native.Nat.{ℕ, zero, suc, _+_, _-_, _*_, _/_, _%_, _^_, _<_, _≤_, min}
 use native.Mathlib.Omega.{arith}
+use borrow.Author.Tests.{not-true, not-false}
 use denote.Ref.{now}
+use lib.ListN.{length}
 use Rattle.bits.specs.Bits.{bitsOf, octets}
 use Rattle.frame.specs.Streams.{fill}
-use Rattle.frame.specs.Block.{heard, streams}
+use Rattle.frame.specs.Block.{fitting, heard, streams}
 use Rattle.frame.specs.Layout.{rowsBy}
 use Rattle.frame.specs.declared.Layout.{Layout}
-use Rattle.frame.proofs.BlockLaws.{no-line, no-voice-buffer, no-lsd-buffer, all-fit, told, block-is}
+use Rattle.frame.proofs.BlockLaws.{lengths, told, block-is}
 use Rattle.frame.proofs.LayoutLaws.{apart-of}
 use borrow.Author.Needs.{needs}
 use Rattle.frame.proofs.write_block.Statement.{statement}
 use Rattle.frame.proofs.write_block.Tie as tie
 
+lengths-fit-requires : tie.Need-lengths-fit-requires
+lengths-fit-requires c κs = search needs
+
 returns : tie.Need-returns
 returns c =
-    let a = c .before .before .before .before .args in
-    told (a .mode) (a .header) (a .mute) (now (a .voice)) (now (a .lsd)) (now (a .line)) false (no-line _ _ _ (c .if1 .taken))
-
-returns-2 : tie.Need-returns-2
-returns-2 c =
     let a = c .before .before .before .before .before .args in
-    told (a .mode) (a .header) (a .mute) (now (a .voice)) (now (a .lsd)) (now (a .line)) false (no-voice-buffer _ _ _ (c .before .if1 .left) (c .if2 .taken))
-
-returns-3 : tie.Need-returns-3
-returns-3 c =
-    let a = c .before .before .before .before .before .before .args in
-    told (a .mode) (a .header) (a .mute) (now (a .voice)) (now (a .lsd)) (now (a .line)) false (no-lsd-buffer _ _ _ (c .before .before .if1 .left) (c .before .if2 .left) (c .if3 .taken))
+    told (a .mode) (a .header) (a .mute) (now (a .voice)) (now (a .lsd)) (now (a .line)) false (sym (c .before .lengths-fit .ensures) ∙ not-true _ (c .if1 .taken))
 
 layout-of-requires : tie.Need-layout-of-requires
 layout-of-requires c κs = search needs
@@ -38,24 +33,25 @@ service-of-requires : tie.Need-service-of-requires
 service-of-requires c κs = search needs
 
 fill-block-requires : tie.Need-fill-block-requires
-fill-block-requires c κs = (
-  c .before .before .before .before .before .if1 .left,
-  record {
-    apart = rw (c .before .before .layout-of .ensures) (apart-of (c .before .before .before .before .before .before .before .before .before .args .mode));
-    spoken = c .before .before .before .before .if2 .left;
-    given = c .before .before .before .if3 .left;
-    from = omega arith;
-    on = omega arith;
-  },
-)
+fill-block-requires c κs =
+    let fit = lengths _ _ _ (sym (c .before .before .before .before .lengths-fit .ensures) ∙ not-false _ (c .before .before .before .if1 .left)) in (
+      fit .0,
+      record {
+        apart = rw (c .before .before .layout-of .ensures) (apart-of (c .before .before .before .before .before .before .before .before .args .mode));
+        spoken = fit .1;
+        given = fit .2;
+        from = omega arith;
+        on = omega arith;
+      },
+    )
 
 same-length : tie.Need-same-length
 same-length c = search needs
 
-returns-4 : tie.Need-returns-4
-returns-4 c =
-    let a = c .before .before .before .before .before .before .before .before .before .before .before .before .args in
-    let said = told (a .mode) (a .header) (a .mute) (now (a .voice)) (now (a .lsd)) (now (a .line)) true (all-fit _ _ _ (c .before .before .before .before .before .before .before .before .if1 .left) (c .before .before .before .before .before .before .before .if2 .left) (c .before .before .before .before .before .before .if3 .left)) in (
+returns-2 : tie.Need-returns-2
+returns-2 c =
+    let a = c .before .before .before .before .before .before .before .before .before .before .before .args in
+    let said = told (a .mode) (a .header) (a .mute) (now (a .voice)) (now (a .lsd)) (now (a .line)) true (sym (c .before .before .before .before .before .before .before .lengths-fit .ensures) ∙ not-false _ (c .before .before .before .before .before .before .if1 .left)) in (
       said .0,
       c .before .before .fill-block .ensures
           ∙ ap₂ (λ (p : Layout) (bits : List Bool). octets 160 (fill (rowsBy p 80 ++ rowsBy p 80) (streams bits (heard (a .mute) (bitsOf (now (a .voice)))) (bitsOf (now (a .lsd))))))
@@ -68,11 +64,10 @@ pub write-block-spec : {M : Type 1} → statement M
 write-block-spec =
     tie.close
     (tie.spec
+    lengths-fit-requires
     returns
-    returns-2
-    returns-3
     layout-of-requires
     service-of-requires
     fill-block-requires
     same-length
-    returns-4)
+    returns-2)

@@ -7,9 +7,9 @@ use borrow.Author.Needs.{needs}
 use denote.Ref.{now}
 use lib.ListN.{length, drop, set, length-set, drop-of-length-le}
 use Rattle.bits.specs.Bits.{octets}
-use Rattle.bits.proofs.PackLaws.{length-octets}
+use Rattle.bits.proofs.PackLaws.{length-octets, one-more}
 use Rattle.frame.specs.Layout.{frameSources, frameBy}
-use Rattle.frame.proofs.WrittenLaws.{done, done-more, one-more}
+use Rattle.frame.proofs.WrittenLaws.{done, done-more}
 use Rattle.frame.proofs.write_frame.Statement.{statement}
 use Rattle.frame.proofs.write_frame.Tie as tie
 

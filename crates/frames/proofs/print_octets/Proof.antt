@@ -1,14 +1,14 @@
--- `figures::print_octets` is safe and ends: its counter goes up to a bound.
+-- `frames::print_octets` is safe and ends: its counter goes up to a bound.
 use Prim.Native.Nat.{_-_, _≤_}
 use native.Mathlib.Omega.{arith}
-use Rattle.figures.proofs.print_octets.Statement.{statement}
-use Rattle.figures.proofs.print_octets.Tie as tie
+use Rattle.frames.proofs.print_octets.Statement.{statement}
+use Rattle.frames.proofs.print_octets.Tie as tie
 
 abbrev Inv-loop : tie.InvT-loop
-Inv-loop s octets i₀ i-end i = 0 ≤ i
+Inv-loop mode label octets i₀ i-end i = 0 ≤ i
 
 abbrev μ-loop : tie.MeasureT-loop
-μ-loop s octets i₀ i-end i = i-end - i
+μ-loop mode label octets i₀ i-end i = i-end - i
 
 loop-holds : tie.Need-loop-holds Inv-loop μ-loop
 loop-holds c = omega arith

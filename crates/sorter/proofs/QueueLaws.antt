@@ -1,0 +1,111 @@
+-- Laws of the packing queue: what it holds stays below its width, bits more with and without an octet written, and its end.
+use mathlib.Core.Path.{_≡_, ap, sym, _∙_}
+use mathlib.Core.Bool.{Bool}
+use mathlib.Core.List.{List, [], _∷_, _++_}
+use Prim.Native.Nat.{ℕ, zero, suc, _+_, _-_, _*_, _/_, _%_, _^_, _≤_, _<_}
+use native.Mathlib.Omega.{arith}
+use lib.Arith.{digits-lt}
+use lib.Pow.{pow-add, shr-lt}
+use lib.ListN.{length, take, drop, set, replicate, length-append, length-replicate, length-drop, length-set}
+use lib.Seq.{drop-drop, drop-append-le, take-append-le}
+use Rattle.bits.proofs.PackLaws.{length-octets, octets-snoc, octets-prefix, octets-zeros, padded, first-eight, after-eight, one-more}
+use Rattle.bits.specs.Bits.{number, zeros, octets}
+use Rattle.bits.proofs.BitLaws.{number-append, number-bound}
+use Rattle.sorter.specs.Packed.{Packed}
+use Rattle.sorter.specs.declared.Queue.{Queue}
+
+-- a number of h + n bits, and of those the first eight
+pub eight-lt : (h n a x : ℕ) → a < 2 ^ h → x < 2 ^ n → 8 ≤ h + n → (a * 2 ^ n + x) / 2 ^ (h + n - 8) < 256
+eight-lt h n a x ha hx l =
+    let e : h + n ≡ 8 + (h + n - 8) = omega arith in
+    let b : a * 2 ^ n + x < 2 ^ (h + n) = rw (pow-add 2 h n) (digits-lt ha hx) in
+    shr-lt 8 (h + n - 8) (rw e at b)
+
+pub packed-lt : (bs : List Bool) (was buf : List ℕ) (q : Queue) → Packed bs was buf q → q .waiting < 2 ^ (q .held)
+packed-lt bs was buf q h =
+    let d : List Bool = drop (q .at * 8) bs in
+    let l : length d ≡ q .held = rw length-drop (omega arith) in
+    rw (h .rest) (rw l at (number-bound d))
+
+-- what has come with xs, seen from octet `at` on
+waits : (bs xs : List Bool) (was buf : List ℕ) (q : Queue) → Packed bs was buf q
+    → number (drop (q .at * 8) (bs ++ xs)) ≡ q .waiting * 2 ^ length xs + number xs
+waits bs xs was buf q h =
+    let l : q .at * 8 ≤ length bs = omega arith in
+    rw (drop-append-le (q .at * 8) bs xs l, number-append (drop (q .at * 8) bs) xs, ← (h .rest))
+
+-- fewer than eight wait: nothing is written
+pub packed-less : (bs xs : List Bool) (was buf : List ℕ) (q : Queue) → Packed bs was buf q → q .held + length xs < 8
+    → Packed (bs ++ xs) was buf (record { at = q .at; held = q .held + length xs; waiting = q .waiting * 2 ^ length xs + number xs })
+packed-less bs xs was buf q h l =
+    record {
+      room = h .room;
+      left = l;
+      ends = rw length-append (omega arith);
+      rest = sym (waits bs xs was buf q h);
+      done = rw (octets-prefix (q .at) bs xs (omega arith)) (h .done);
+    }
+
+-- eight or more wait: the first eight are the next octet
+pub packed-more : (bs xs : List Bool) (was buf : List ℕ) (q : Queue) (n : ℕ) → Packed bs was buf q → length xs ≤ 8 → 8 ≤ q .held + length xs
+    → q .at < length was → n ≡ q .waiting * 2 ^ length xs + number xs
+    → Packed (bs ++ xs) was (set buf (q .at) (n / 2 ^ (q .held + length xs - 8)))
+    (record { at = q .at + 1; held = q .held + length xs - 8; waiting = n % 2 ^ (q .held + length xs - 8) })
+packed-more bs xs was buf q n h h8 l hk hn =
+    let k : ℕ = q .at * 8 in
+    let all : List Bool = bs ++ xs in
+    let d : List Bool = drop k all in
+    let m : ℕ = q .held + length xs in
+    let lall : length all ≡ k + m = rw length-append (omega arith) in
+    let ld : length d ≡ m = rw length-drop (omega arith) in
+    let vd : number d ≡ n = waits bs xs was buf q h ∙ sym hn in
+    let eight : n / 2 ^ (m - 8) ≡ number (take 8 d) = rw (vd, ld) at (first-eight d (omega arith)) in
+    let more : n % 2 ^ (m - 8) ≡ number (drop 8 d) = rw (vd, ld) at (after-eight d (omega arith)) in
+    let eightMore : k + 8 ≡ (q .at + 1) * 8 = omega arith in
+    let further : drop 8 d ≡ drop ((q .at + 1) * 8) all = drop-drop 8 k all ∙ ap (λ (z : ℕ). drop z all) eightMore in
+    let enough : 8 ≤ length d = omega arith in
+    let written : octets (q .at + 1) all ≡ octets (q .at) all ++ (n / 2 ^ (m - 8) ∷ []) =
+    octets-snoc (q .at) all ∙ ap (λ (z : ℕ). octets (q .at) all ++ (z ∷ [])) (ap number (take-append-le 8 d (zeros 8) enough) ∙ sym eight) in
+    let before : octets (q .at) all ≡ octets (q .at) bs = octets-prefix (q .at) bs xs (omega arith) in
+    record {
+      room = length-set buf (q .at) (n / 2 ^ (m - 8)) ∙ h .room;
+      left = omega arith;
+      ends = lall ∙ omega arith;
+      rest = more ∙ ap number further;
+      done =
+          ap (λ (b : List ℕ). set b (q .at) (n / 2 ^ (m - 8))) (h .done ∙ ap (λ (b : List ℕ). b ++ drop (q .at) was) (sym before))
+          ∙ one-more (λ (j : ℕ). octets j all) was (q .at) (n / 2 ^ (m - 8)) (length-octets (q .at) all) written hk;
+    }
+
+-- ---- the end: what was there before is zeros
+abbrev blank : ℕ → List ℕ
+blank n = replicate n 0
+
+drop-blank : (k n : ℕ) → drop k (blank n) ≡ blank (n - k)
+drop-blank zero n = let e : n - 0 ≡ n = omega arith in rw e
+drop-blank (suc k) zero = let e : 0 - suc k ≡ 0 = omega arith in rw e
+drop-blank (suc k) (suc n) = let e : suc n - suc k ≡ n - k = omega arith in rw e (drop-blank k n)
+
+-- all bits are written: the rest is zeros already
+closed : (bs : List Bool) (k n : ℕ) → length bs ≤ k * 8 → k ≤ n → octets k bs ++ drop k (blank n) ≡ octets n bs
+closed bs k n h l =
+    let m : k + (n - k) ≡ n = omega arith in
+    ap (λ (t : List ℕ). octets k bs ++ t) (drop-blank k n) ∙ sym (octets-zeros k (n - k) bs h) ∙ ap (λ (j : ℕ). octets j bs) m
+
+-- nothing waits
+pub finished : (bs : List Bool) (buf : List ℕ) (n : ℕ) (q : Queue) → Packed bs (replicate n 0) buf q → q .held ≡ 0 → q .at ≤ n → buf ≡ octets n bs
+finished bs buf n q h e l = h .done ∙ closed bs (q .at) n (omega arith) l
+
+-- some wait: one octet more
+pub finished-more : (bs : List Bool) (buf : List ℕ) (n : ℕ) (q : Queue) → Packed bs (replicate n 0) buf q → q .at < n
+    → set buf (q .at) (q .waiting * 2 ^ (8 - q .held)) ≡ octets n bs
+finished-more bs buf n q h l =
+    let d : List Bool = drop (q .at * 8) bs in
+    let ld : length d ≡ q .held = rw length-drop (omega arith) in
+    let x : ℕ = q .waiting * 2 ^ (8 - q .held) in
+    let last : number (take 8 (d ++ zeros 8)) ≡ x = padded d (omega arith) ∙ rw (ld, ← (h .rest)) in
+    let written : octets (q .at + 1) bs ≡ octets (q .at) bs ++ (x ∷ []) = octets-snoc (q .at) bs ∙ ap (λ (z : ℕ). octets (q .at) bs ++ (z ∷ [])) last in
+    let fits : q .at < length (blank n) = rw length-replicate l in
+    ap (λ (b : List ℕ). set b (q .at) x) (h .done)
+    ∙ one-more (λ (j : ℕ). octets j bs) (blank n) (q .at) x (length-octets (q .at) bs) written fits
+    ∙ closed bs (q .at + 1) n (omega arith) (omega arith)

@@ -1,0 +1,108 @@
+-- `sorter::hand_out` meets its contract: where a length is wrong nothing was touched, and else each buffer has room for its stream.
+use borrow.Author.Needs.{needs}
+use borrow.Author.Tests.{eqb-true, not-true, not-false}
+use native.Mathlib.Omega.{arith}
+use mathlib.Core.Path.{_≡_, sym, subst, _∙_}
+use mathlib.Core.Bool.{Bool, true, false, _&&_}
+use mathlib.Core.List.{List, _++_}
+use Prim.Native.Nat.{ℕ}
+use denote.Ref.{now}
+use lib.Dec.{eqb}
+use lib.ListN.{length}
+use Rattle.bits.specs.Bits.{bitsOf, octets}
+use Rattle.bits.proofs.Every.{and-left, and-right}
+use Rattle.modes.specs.declared.Mode.{Mode}
+use Rattle.modes.specs.declared.Owner.{Owner}
+use Rattle.modes.specs.declared.Owner.the-variants.{Voice, Lsd}
+use Rattle.frame.specs.Streams.{sort}
+use Rattle.frame.specs.Block.{places, fitting}
+use Rattle.frame.specs.Layout.{Apart, layoutOf, rowsBy}
+use Rattle.frame.specs.declared.Layout.{Layout}
+use Rattle.frame.proofs.LayoutLaws.{rows-are, apart-of, count-voice, count-lsd}
+use Rattle.frame.proofs.BlockLaws.{lengths}
+use Rattle.sorter.specs.Sorting.{sortedOf, voiceAfter, lsdAfter}
+use Rattle.sorter.proofs.hand_out.Statement.{statement}
+use Rattle.sorter.proofs.hand_out.Tie as tie
+
+-- the contract's three parts
+Handed : Bool → Mode → List ℕ → List ℕ → List ℕ → List ℕ → List ℕ → Type 0
+Handed r m line voice lsd voice₁ lsd₁ =
+    (r ≡ fitting (length line) (length voice) (length lsd)) × (voice₁ ≡ voiceAfter m line voice lsd) × (lsd₁ ≡ lsdAfter m line voice lsd)
+
+left-alone : (m : Mode) (line voice lsd : List ℕ) → fitting (length line) (length voice) (length lsd) ≡ false
+    → Handed false m line voice lsd voice lsd
+unfolding Handed voiceAfter lsdAfter
+left-alone m line voice lsd e = (sym e, rw e, rw e)
+
+written : (m : Mode) (line voice lsd voice₁ lsd₁ : List ℕ) → fitting (length line) (length voice) (length lsd) ≡ true
+    → voice₁ ≡ sortedOf m Voice 140 line → lsd₁ ≡ sortedOf m Lsd 156 line → Handed true m line voice lsd voice₁ lsd₁
+unfolding Handed voiceAfter lsdAfter
+written m line voice lsd voice₁ lsd₁ e v d = (sym e, rw e v, rw e d)
+
+-- sorting by the layout is sorting by the rule of owners
+by-owner : (m : Mode) (p : Layout) (o : Owner) (n k : ℕ) (line buf : List ℕ) → p ≡ layoutOf m → n ≡ k
+    → buf ≡ octets n (sort o (rowsBy p 80 ++ rowsBy p 80) (bitsOf line)) → buf ≡ sortedOf m o k line
+unfolding sortedOf places
+by-owner m p o n k line buf e f h = h ∙ rw (f, e, ← (rows-are m 80))
+
+apart-by : (m : Mode) (p : Layout) → p ≡ layoutOf m → Apart p
+apart-by m p e = subst Apart (sym e) (apart-of m)
+
+lengths-fit-requires : tie.Need-lengths-fit-requires
+lengths-fit-requires c κs = search needs
+
+returns : tie.Need-returns
+unfolding Handed
+returns c =
+    let a = c .before .before .before .before .before .args in
+    left-alone (a .mode) (now (a .line)) (now (a .voice)) (now (a .lsd)) (sym (c .before .lengths-fit .ensures) ∙ not-true _ (c .if1 .taken))
+
+layout-of-requires : tie.Need-layout-of-requires
+layout-of-requires c κs = search needs
+
+sort-stream-requires : tie.Need-sort-stream-requires
+sort-stream-requires c κs =
+    let a = c .before .before .before .before .before .before .before .args in
+    let fit = lengths _ _ _ (sym (c .before .before .before .lengths-fit .ensures) ∙ not-false _ (c .before .before .if1 .left)) in
+    let l = c .before .layout-of in
+    let apart = apart-by (a .mode) (l .result) (l .ensures) in
+    (apart, (fit .0, omega (arith, fit .1, count-voice (l .result) 80, apart .within)))
+
+sort-stream-requires-2 : tie.Need-sort-stream-requires-2
+sort-stream-requires-2 c κs =
+    let a = c .before .before .before .before .before .before .before .before .before .before .before .args in
+    let fit = lengths _ _ _ (sym (c .before .before .before .before .before .before .before .lengths-fit .ensures) ∙ not-false _ (c .before .before .before .before .before .before .if1 .left)) in
+    let l = c .before .before .before .before .before .layout-of in
+    let apart = apart-by (a .mode) (l .result) (l .ensures) in
+    (apart, (fit .0, omega (arith, fit .2, count-lsd (l .result) 80 apart, apart .within, apart .after, apart .until)))
+
+same-length : tie.Need-same-length
+same-length c = search needs
+
+same-length-2 : tie.Need-same-length-2
+same-length-2 c = search needs
+
+returns-2 : tie.Need-returns-2
+unfolding Handed
+returns-2 c =
+    let a = c .before .before .before .before .before .before .before .before .before .before .before .before .before .before .args in
+    let l = c .before .before .before .before .before .before .before .before .layout-of in
+    let yes : fitting (length (now (a .line))) (length (now (a .voice))) (length (now (a .lsd))) ≡ true =
+    sym (c .before .before .before .before .before .before .before .before .before .before .lengths-fit .ensures) ∙ not-false _ (c .before .before .before .before .before .before .before .before .before .if1 .left) in
+    let fit = lengths _ _ _ yes in
+    written (a .mode) (now (a .line)) (now (a .voice)) (now (a .lsd)) _ _ yes
+    (by-owner (a .mode) (l .result) Voice _ 140 (now (a .line)) _ (l .ensures) (fit .1) (c .before .before .before .before .before .before .sort-stream .ensures))
+    (by-owner (a .mode) (l .result) Lsd _ 156 (now (a .line)) _ (l .ensures) (fit .2) (c .before .before .sort-stream2 .ensures))
+
+pub hand-out-spec : {M : Type 1} → statement M
+hand-out-spec =
+    tie.close
+    (tie.spec
+    lengths-fit-requires
+    returns
+    layout-of-requires
+    sort-stream-requires
+    sort-stream-requires-2
+    same-length
+    same-length-2
+    returns-2)

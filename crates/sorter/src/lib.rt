@@ -1,0 +1,162 @@
+// Voice and data sorted out of a block's octets, each into a buffer of its own (document 01, 'Reading a block').
+ghost use mathlib.Core.Path.{_≡_};
+ghost use mathlib.Core.Bool.{Bool};
+ghost use mathlib.Core.List.{List, _++_};
+ghost use Prim.Native.Nat.{ℕ, _+_, _*_, _^_, _<_, _≤_};
+ghost use lib.ListN.{length, drop, take, replicate};
+ghost use Rattle.bits.specs.Bits.{bitsOf, octetBits, octets, number};
+ghost use Rattle.frame.specs.Streams.{count, sort};
+ghost use Rattle.frame.specs.Block.{fitting};
+ghost use Rattle.frame.specs.Layout.{Apart, rowBy, rowsBy};
+ghost use Rattle.sorter.specs.Packed.{Packed, whose};
+ghost use Rattle.sorter.specs.Sorting.{voiceAfter, lsdAfter};
+use frame::Layout;
+use modes::Mode;
+
+// The two streams that are handed out.
+enum Stream {
+    Voice,
+    Lsd,
+}
+
+// The bits of an octet that a stream holds, which stand together: `bits` of them after the first `start`.
+struct Run {
+    start: usize,
+    bits: usize,
+}
+
+// Bits on their way into a buffer: `at` octets are written, and `held` bits, fewer than eight, wait as a number.
+struct Queue {
+    at: usize,
+    held: usize,
+    waiting: usize,
+}
+
+// The run of a stream in octet o + 1 of a frame. The SC bit is the last of an octet, so data's goes on into it.
+fn run_of(p: Layout, t: Stream, o: usize) -> Run
+    requires { ⌜ (o < 80) × Apart p ⌝ }
+    ensures { λ r. ⌜ (r .start + r .bits ≤ 8) × ((bs : List Bool) → sort (whose t) (rowBy p (o + 1)) bs ≡ take (r .bits) (drop (r .start) bs)) ⌝ }
+{
+    let w = p.width as usize;
+    let c = p.columns as usize;
+    let first = p.first as usize;
+    let last = p.last as usize;
+    match t {
+        Stream::Voice => Run { start: 0, bits: w },
+        Stream::Lsd => {
+            let start = 7 - c;
+            if o + 1 < first {
+                return Run {
+                    start: start,
+                    bits: c,
+                };
+            }
+            if last < o + 1 {
+                return Run {
+                    start: start,
+                    bits: c,
+                };
+            }
+            Run {
+                start: start,
+                bits: c + 1,
+            }
+        }
+    }
+}
+
+// Zero to the bit, before anything is packed: so what is past the end of the stream's bits is zero.
+fn clear(out: &mut [u8])
+    ensures { λ _. ⌜ now (out .exit) ≡ replicate (length (now (out .entry))) 0 ⌝ }
+{
+    let mut i = 0;
+    while i < out.len() {
+        out[i] = 0;
+        i += 1;
+    }
+}
+
+// The number that a run of an octet's bits spells.
+fn taken(r: Run, x: u8) -> usize
+    requires { ⌜ r .start + r .bits ≤ 8 ⌝ }
+    ensures { λ n. ⌜ n ≡ number (take (r .bits) (drop (r .start) (octetBits x))) ⌝ }
+{
+    let octet = x as usize;
+    let bits = r.bits;
+    let start = r.start;
+    (octet >> (8 - (start + bits))) % (1 << bits)
+}
+
+// n bits more, eight at most, as the number x: where eight are there, the first eight of them are written.
+fn push(out: &mut [u8], q: Queue, n: usize, x: usize) -> Queue
+    requires { ⌜ (q .held < 8) × (q .waiting < 2 ^ (q .held)) × (n ≤ 8) × (x < 2 ^ n) × (q .at * 8 + q .held + n ≤ length (now out) * 8) ⌝ }
+    ensures { λ r. ⌜ ((bs xs : List Bool) (was : List ℕ) → Packed bs was (now (out .entry)) q → length xs ≡ n → number xs ≡ x → Packed (bs ++ xs) was (now (out .exit)) r) ⌝ }
+{
+    let at = q.at;
+    let held = q.held + n;
+    let waiting = (q.waiting << n) + x;
+    if held < 8 {
+        return Queue {
+            at: at,
+            held: held,
+            waiting: waiting,
+        };
+    }
+    let left = held - 8;
+    out[at] = (waiting >> left) as u8;
+    Queue {
+        at: at + 1,
+        held: left,
+        waiting: waiting % (1 << left),
+    }
+}
+
+// The bits that still wait, with zeros after them up to the octet's end.
+fn finish(out: &mut [u8], q: Queue)
+    requires { ⌜ (q .held < 8) × (q .waiting < 2 ^ (q .held)) × (q .at * 8 + q .held ≤ length (now out) * 8) ⌝ }
+    ensures { λ _. ⌜ ((bs : List Bool) → Packed bs (replicate (length (now (out .entry))) 0) (now (out .entry)) q → now (out .exit) ≡ octets (length (now (out .entry))) bs) ⌝ }
+{
+    let at = q.at;
+    let held = q.held;
+    if 0 < held {
+        out[at] = (q.waiting << (8 - held)) as u8;
+    }
+}
+
+// A stream's bits out of a block, packed from the front of a buffer that has room for them, and zeros after them.
+fn sort_stream(line: &[u8], p: Layout, t: Stream, out: &mut [u8])
+    requires { ⌜ Apart p ⌝ }
+    requires { ⌜ (length (now line) ≡ 160) × (2 * count (whose t) (rowsBy p 80) ≤ length (now out) * 8) ⌝ }
+    ensures { λ _. ⌜ now (out .exit) ≡ octets (length (now (out .entry))) (sort (whose t) (rowsBy p 80 ++ rowsBy p 80) (bitsOf (now (line .entry)))) ⌝ }
+{
+    clear(out);
+    let mut q = Queue {
+        at: 0,
+        held: 0,
+        waiting: 0,
+    };
+    let mut o = 0;
+    while o < 160 {
+        let run = run_of(p, t, o % 80);
+        let n = run.bits;
+        q = push(out, q, n, taken(run, line[o]));
+        o += 1;
+    }
+    finish(out, q);
+}
+
+// Voice and data of a block under a mode, each into its own buffer, which is zero past the stream's end.
+// Where one of the three lengths is wrong, nothing is written and the answer is false.
+pub fn hand_out(line: &[u8], mode: Mode, voice: &mut [u8], lsd: &mut [u8]) -> bool
+    ensures { λ r. ⌜ (r ≡ fitting (length (now (line .entry))) (length (now (voice .entry))) (length (now (lsd .entry))))
+        × (now (voice .exit) ≡ voiceAfter mode (now (line .entry)) (now (voice .entry)) (now (lsd .entry)))
+        × (now (lsd .exit) ≡ lsdAfter mode (now (line .entry)) (now (voice .entry)) (now (lsd .entry))) ⌝ }
+{
+    if !frame::lengths_fit(line.len(), voice.len(), lsd.len()) {
+        return false;
+    }
+    let p = frame::layout_of(mode);
+    sort_stream(line, p, Stream::Voice, voice);
+    sort_stream(line, p, Stream::Lsd, lsd);
+    true
+}
