@@ -3,6 +3,7 @@
 use bas::Word;
 use libc::STDOUT_FILENO;
 use modes::Mode;
+use modes::OctetNumber;
 use modes::Owner;
 
 fn text(s: &[u8]) {
@@ -240,6 +241,33 @@ fn bit_index(word: u16) -> u64 {
     at
 }
 
+fn letter(owner: Owner) -> u8 {
+    match owner {
+        Owner::Service => 83,
+        Owner::Voice => 86,
+        Owner::Lsd => 68,
+        Owner::Nobody => 46,
+    }
+}
+
+fn print_bit(mode: Mode, bit: u8) {
+    text(b"bit ");
+    decimal(bit as u64);
+    text(b" ");
+    for octet in 1u8..81 {
+        let one = [letter(modes::owner_of(mode, OctetNumber(octet), bit))];
+        text(&one);
+    }
+    text(b"\n");
+}
+
+// A frame, octet 1 to 80 from left to right: S service, V voice, D data, a point where nobody holds the place.
+fn picture(mode: Mode) {
+    for bit in 1u8..9 {
+        print_bit(mode, bit);
+    }
+}
+
 fn main() {
     check(0x00);
     check(0x01);
@@ -264,4 +292,6 @@ fn main() {
     rates();
     text(b"table 2\n");
     line_places();
+    text(b"a frame of audio [20] with data [6]\n");
+    picture(Mode { audio: 20, lsd: 6 });
 }
