@@ -3,8 +3,9 @@
 
 demo:
 	@mkdir -p target
-	@rt check figures >target/demo.log 2>&1 || { cat target/demo.log; exit 1; }
+	@rt check figures frames >target/demo.log 2>&1 || { cat target/demo.log; exit 1; }
 	@sh tools/run figures
+	@sh tools/run frames
 
 test:
 	@sh tools/test

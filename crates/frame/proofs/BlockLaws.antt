@@ -78,6 +78,12 @@ pub told : (m : Mode) (h : Header) (mute : Bool) (voice lsd line : List ℕ) (b 
 unfolding lineAfter
 told m h mute voice lsd line b e = (sym e, ap (λ (t : Bool). cond t (blockOf m h mute voice lsd) line) (sym e))
 
+-- where the lengths fit, the line holds the block
+pub written-block : (m : Mode) (h : Header) (mute : Bool) (voice lsd line : List ℕ) → fitting (length line) (length voice) (length lsd) ≡ true
+    → lineAfter m h mute voice lsd line ≡ blockOf m h mute voice lsd
+unfolding lineAfter
+written-block m h mute voice lsd line e = rw e
+
 -- ---- silence: with mute set, or with no audio in force, a block does not depend on the voice
 pub silent-muted : (m : Mode) (h : Header) (voice other lsd : List ℕ) → blockOf m h true voice lsd ≡ blockOf m h true other lsd
 unfolding blockOf

@@ -1,0 +1,6 @@
+pub mod State
+pub mod Rules
+pub mod Plans
+pub mod Refusals
+pub mod Step
+pub mod Presets

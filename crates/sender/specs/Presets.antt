@@ -1,0 +1,37 @@
+-- Document 01, 'Preset': 16 bits, most significant first: audio value (5), data value (5), six zeros.
+use mathlib.Core.Bool.{Bool, cond, _&&_}
+use Prim.Native.Nat.{ℕ, _+_, _*_, _/_, _%_}
+use lib.Dec.{eqb}
+use Rattle.modes.specs.Codes.{written, lsdAttribute, audioOff, lsdOff}
+use Rattle.modes.specs.Commands.{mode, inRange}
+use Rattle.sender.specs.State.{stateInRange, freshWith}
+use Rattle.sender.specs.declared.Sender.{Sender}
+use Rattle.sender.specs.declared.Refusal.the-variants.{BadState, NotAPreset}
+use Rattle.sender.specs.declared.PresetRead.{PresetRead}
+use Rattle.sender.specs.declared.PresetAnswer.the-variants.{Read, Unread}
+use Rattle.sender.specs.declared.PresetWritten.{PresetWritten}
+use Rattle.sender.specs.declared.PresetWritten.the-variants.{Bits, Unwritten}
+
+abbrev pub presetOf : ℕ → ℕ → ℕ
+presetOf audio lsd = audio * 2048 + lsd * 64
+
+abbrev pub audioIn : ℕ → ℕ
+audioIn bits = bits / 2048
+
+abbrev pub lsdIn : ℕ → ℕ
+lsdIn bits = bits / 64 % 32
+
+-- only listed values without overlap, audio [0] not, and six zeros
+unfoldable pub isPreset : ℕ → Bool
+isPreset bits = inRange (mode (audioIn bits) (lsdIn bits)) && eqb (bits % 64) 0
+
+-- reading one gives a fresh state with that chosen audio, and the data code to offer; a refused one a fresh state and "data off"
+unfoldable pub presetRead : ℕ → PresetRead
+presetRead bits =
+    cond (isPreset bits)
+    (record { answer = Read; state = freshWith (audioIn bits); offer = written lsdAttribute (lsdIn bits) })
+    (record { answer = Unread NotAPreset; state = freshWith audioOff; offer = written lsdAttribute lsdOff })
+
+-- writing one takes the chosen audio and the data in force
+unfoldable pub presetWritten : Sender → PresetWritten
+presetWritten s = cond (stateInRange s) (Bits (presetOf (s .chosen) (s .mode .lsd))) (Unwritten BadState)
