@@ -1,2 +1,3 @@
-pub mod TableLaws
+pub mod ModeLaws
 pub mod OwnerLaws
+pub mod TableLaws

@@ -1,2 +1,3 @@
 pub mod GoesLaws
 pub mod OutcomeLaws
+pub mod RangeLaws

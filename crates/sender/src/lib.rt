@@ -7,7 +7,7 @@ ghost use Rattle.sender.specs.Rules.{ruleOf};
 ghost use Rattle.sender.specs.Plans.{dueNumber, planBy};
 ghost use Rattle.sender.specs.Refusals.{numberOf, clashes, goesPlain, goesAsItem, inOrder, judge, verdictOf};
 ghost use Rattle.sender.specs.Step.{nextBy, Told};
-ghost use Rattle.sender.specs.Presets.{isPreset, presetRead};
+ghost use Rattle.sender.specs.Presets.{isPreset, presetRead, presetWritten};
 use frame::Header;
 use modes::BlockNumber;
 use modes::Mode;
@@ -426,4 +426,16 @@ pub fn read_preset(bits: u16) -> PresetRead
         state: none,
         offer: 96,
     }
+}
+
+// A state's chosen audio and data in force, as a preset.
+pub fn write_preset(s: Sender) -> PresetWritten
+    ensures { λ r. ⌜ r ≡ presetWritten s ⌝ }
+{
+    let chosen = s.chosen;
+    let lsd = s.mode.lsd;
+    if in_range(s) {
+        return PresetWritten::Bits((chosen as u16) * 2048 + (lsd as u16) * 64);
+    }
+    PresetWritten::Unwritten(Refusal::BadState)
 }

@@ -1,0 +1,41 @@
+-- `sender::write_preset` meets its contract: by whether the state is in range; listed values are small.
+use mathlib.Core.Path.{sym, _∙_}
+use native.Mathlib.Omega.{arith}
+use Rattle.sender.specs.Presets.{presetWritten}
+use Rattle.sender.proofs.RangeLaws.{chosen-small, lsd-in-force-small}
+use borrow.Author.Needs.{needs}
+use Rattle.sender.proofs.write_preset.Statement.{statement}
+use Rattle.sender.proofs.write_preset.Tie as tie
+
+in-range-requires : tie.Need-in-range-requires
+in-range-requires c κs = search needs
+
+cast-t5 : tie.Need-cast-t5
+cast-t5 c = search needs
+
+mul-t6 : tie.Need-mul-t6
+mul-t6 c = omega (arith, chosen-small (c .before .before .args .s) (sym (c .before .in-range .ensures) ∙ c .if1 .taken))
+
+cast-t7 : tie.Need-cast-t7
+cast-t7 c = search needs
+
+mul-t8 : tie.Need-mul-t8
+mul-t8 c = search needs
+
+add-t9 : tie.Need-add-t9
+add-t9 c =
+    let a = c .before .before .args in
+    let r = sym (c .before .in-range .ensures) ∙ c .if1 .taken in
+    omega (arith, chosen-small (a .s) r, lsd-in-force-small (a .s) r)
+
+returns : tie.Need-returns
+unfolding presetWritten
+returns c = rw (← c .before .in-range .ensures, c .if1 .taken)
+
+returns-2 : tie.Need-returns-2
+unfolding presetWritten
+returns-2 c = rw (← c .before .in-range .ensures, c .if1 .left)
+
+pub write-preset-spec : {M : Type 1} → statement M
+write-preset-spec =
+    tie.close (tie.spec in-range-requires cast-t5 mul-t6 cast-t7 mul-t8 add-t9 returns returns-2)
