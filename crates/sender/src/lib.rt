@@ -222,7 +222,7 @@ fn first_given(
     if b8 {
         return Verdict::Refuse(Refusal::Overlap);
     }
-    Verdict::Goes(rule)
+    return Verdict::Goes(rule);
 }
 
 fn verdict_of(s: Sender, c: Call, line: usize, voice: usize, lsd: usize) -> Verdict
