@@ -3,9 +3,10 @@
 
 demo:
 	@mkdir -p target
-	@rt check figures frames >target/demo.log 2>&1 || { cat target/demo.log; exit 1; }
+	@rt check figures frames demo >target/demo.log 2>&1 || { cat target/demo.log; exit 1; }
 	@sh tools/run figures
 	@sh tools/run frames
+	@sh tools/run demo
 
 test:
 	@sh tools/test

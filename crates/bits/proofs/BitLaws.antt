@@ -100,10 +100,6 @@ unfolding lowBits
 length-lowBits zero n = refl
 length-lowBits (suc k) n = ap suc (length-lowBits k n)
 
-digit-bound : (b : Bool) → digit b ≤ 1
-digit-bound true = omega arith
-digit-bound false = omega arith
-
 pub odd-digit : (b : Bool) → odd (digit b) ≡ b
 unfolding odd
 odd-digit true = refl

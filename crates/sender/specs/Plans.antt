@@ -6,9 +6,7 @@ use Rattle.modes.specs.Commands.{mode, commandOf, offered}
 use Rattle.modes.specs.declared.Mode.{Mode}
 use Rattle.modes.specs.declared.Opening.{Opening}
 use Rattle.modes.specs.declared.Opening.the-variants.{Nothing, Item, Message}
-use Rattle.sender.specs.Rules.{ruleOf}
 use Rattle.sender.specs.declared.Sender.{Sender}
-use Rattle.sender.specs.declared.Call.{Call}
 use Rattle.sender.specs.declared.Rule.{Rule}
 use Rattle.sender.specs.declared.Rule.the-variants.{AsItem, MuteOff, Release, Offered}
 use Rattle.sender.specs.declared.Answer.{Answer}
@@ -37,6 +35,3 @@ planBy Release s code = plan (written audioAttribute (s .chosen)) Held (s .chose
 planBy Offered s code =
     let command = commandOf code in
     plan code Sent ((offered command (sounds s (s .chosen))) .audio) (offered command (s .mode)) (dueNumber (openingOf code))
-
-unfoldable pub planOf : Sender → Call → Plan
-planOf s c = planBy (ruleOf s (c .mute)) s (c .code)

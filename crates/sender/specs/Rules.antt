@@ -1,8 +1,7 @@
 -- Document 01, 'Sending a block': which word goes, and by which rule.
-use mathlib.Core.Bool.{Bool, not, cond, _&&_, _||_}
+use mathlib.Core.Bool.{Bool, not, cond, _&&_}
 use Rattle.sender.specs.State.{itemDue, sounding, choosing}
 use Rattle.sender.specs.declared.Sender.{Sender}
-use Rattle.sender.specs.declared.Call.{Call}
 use Rattle.sender.specs.declared.Rule.{Rule}
 use Rattle.sender.specs.declared.Rule.the-variants.{AsItem, MuteOff, Release, Offered}
 
@@ -14,7 +13,3 @@ ruleOf s mute =
     (cond (mute && sounding s) MuteOff
     (cond (not mute && not (sounding s) && choosing s) Release
     Offered))
-
--- demand 3: a block is silent when mute is set in its call or no audio is in force as that call finds it
-abbrev pub silent : Sender → Call → Bool
-silent s c = c .mute || not (sounding s)

@@ -25,6 +25,10 @@ model send [--offer LIST] [--script FILE] [--data FILE] [--preset HHHH] < VOICE 
     Standard error tells what became of each call: sent, held (another word went; offer the code again) or
     refused with its number (no block).
 
+model session
+    Prints one fixed session of 52 sending calls with every rule of sending and refusals 1 to 8: each call's
+    number, offered code, flags, answer and the state that it leaves, and then the block that it wrote.
+
 model list < RECORDING
     Prints 01's listing of standard input.
 
@@ -62,6 +66,7 @@ fn run(arguments: Vec<std::ffi::OsString>) -> Result<(), String> {
     match command.as_str() {
         "vectors" => commands::vectors::run(options),
         "send" => commands::send::run(options),
+        "session" => commands::session::run(options),
         "list" => commands::list::run(options),
         "read" => commands::read::run(options),
         other => Err(format!("unknown command \"{other}\"")),

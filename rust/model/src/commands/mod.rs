@@ -3,6 +3,7 @@
 pub mod list;
 pub mod read;
 pub mod send;
+pub mod session;
 pub mod vectors;
 
 use std::io;

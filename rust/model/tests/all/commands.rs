@@ -104,20 +104,43 @@ fn vectors_are_printed() {
 }
 
 #[test]
+fn session_has_every_answer() {
+    let output = run(&["session"], &[]);
+    assert!(output.status.success());
+    let printed = text(&output.stdout);
+    let (blocks, calls): (Vec<&str>, Vec<&str>) = printed.lines().partition(|line| !line.contains(' '));
+    let answered = |answer: &str| calls.iter().filter(|call| call.contains(&format!(" {answer}:"))).count();
+    assert_eq!((calls.len(), answered("sent"), answered("held")), (52, 29, 6));
+    let refused: Vec<usize> = (1..=11).map(|number| answered(&format!("refused {number}"))).collect();
+    assert_eq!(refused, [2, 2, 1, 1, 2, 1, 3, 5, 0, 0, 0]);
+    assert!(blocks.len() == 35 && blocks.iter().all(|block| block.len() == 320));
+    // Call 14 is muted on an item, call 15 sends mute's "audio off", call 23 the release, call 52 the caller's own.
+    for call in [
+        "14 18 m--- sent: chosen 20 in force 20 data 5 block 3 due 0 ",
+        "15 65 m--- held: chosen 20 in force 31 data 5 block 4 due 0 ",
+        "23 C5 ---- held: chosen 20 in force 20 data 1 block 8 due 0 ",
+        "52 1F ---- sent: chosen 31 in force 31 data 7 block 4 due 0 ",
+    ] {
+        assert!(calls.iter().any(|line| line.starts_with(call)), "{call}");
+    }
+}
+
+#[test]
 fn help_explains() {
     let output = run(&["--help"], &[]);
     assert!(output.status.success());
-    for word in ["model vectors", "model send", "model list", "--seed", "--script"] {
+    for word in ["model vectors", "model send", "model session", "model list", "--seed", "--script"] {
         assert!(text(&output.stdout).contains(word));
     }
 }
 
 #[test]
 fn wrong_usage_is_told() {
-    let calls: [&[&str]; 14] = [
+    let calls: [&[&str]; 15] = [
         &[],
         &["dance"],
         &["list", "file"],
+        &["session", "file"],
         &["read", "file"],
         &["vectors", "everything"],
         &["vectors", "--seed"],
