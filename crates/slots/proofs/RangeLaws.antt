@@ -1,0 +1,60 @@
+-- A mode in range stays so, whatever is read.
+use mathlib.Core.Path.{_≡_, refl}
+use mathlib.Core.Bool.{Bool, true, false, not, cond}
+use Prim.Native.Nat.{ℕ, _<_}
+use borrow.Author.Tests.{not-true}
+use Rattle.bits.proofs.Every.{below}
+use Rattle.modes.specs.Codes.{audioOff, lsdOff}
+use Rattle.modes.specs.Table.{audioTable, lsdTable, beside, audioPlaces, lsdPlaces}
+use Rattle.modes.specs.Owners.{holds, heldBy, some, clash, overlaps}
+use Rattle.modes.specs.Commands.{mode, inRange, commandOf, followed}
+use Rattle.modes.specs.declared.Mode.{Mode}
+use Rattle.modes.specs.declared.Command.{Command}
+use Rattle.modes.specs.declared.Command.the-variants.{Neutral, SetAudio, SetLsd, NoEffect}
+use Rattle.modes.proofs.ModeLaws.{Ranged, ranged, in-range, audio-code, lsd-code, audio-small, lsd-small, off-ranged}
+use Rattle.slots.specs.Readings.{obeyed}
+use Rattle.slots.specs.declared.Reading.{Reading}
+use Rattle.slots.specs.declared.Reading.the-variants.{Mended, Item, MessageWord, ForbiddenItem, NotFollowed, Unreadable, NotRead}
+
+-- nothing overlaps data off, nor audio off: antt computes it at each value
+lsd-off-apart : (v : ℕ) → v < 32 → overlaps (mode v lsdOff) ≡ false
+unfolding audioPlaces audioTable lsdPlaces lsdTable beside overlaps clash some holds heldBy
+lsd-off-apart v small = not-true _ (below 32 (λ (k : ℕ). not (overlaps (mode k lsdOff))) refl v small)
+
+audio-off-apart : (v : ℕ) → v < 15 → overlaps (mode audioOff v) ≡ false
+unfolding audioPlaces audioTable lsdPlaces lsdTable beside overlaps clash some holds heldBy
+audio-off-apart v small = not-true _ (below 15 (λ (k : ℕ). not (overlaps (mode audioOff k))) refl v small)
+
+module _ (code : ℕ) (m : Mode) (r : Ranged m) where
+  by-command : (command : Command) → commandOf code ≡ command → Ranged (followed command m)
+  unfolding followed
+  by-command Neutral e = off-ranged
+  by-command (SetAudio v) e = go (overlaps (mode v (m .lsd))) refl
+    where
+      go : (b : Bool) → overlaps (mode v (m .lsd)) ≡ b → Ranged (cond b (mode v lsdOff) (mode v (m .lsd)))
+      go true o =
+          let a = audio-code code v e in
+          record { spoken = a .listed; named = a .named; given = off-ranged .given; apart = lsd-off-apart v (audio-small v (a .listed)) }
+      go false o =
+          let a = audio-code code v e in
+          record { spoken = a .listed; named = a .named; given = r .given; apart = o }
+  by-command (SetLsd v) e = go (overlaps (mode (m .audio) v)) refl
+    where
+      go : (b : Bool) → overlaps (mode (m .audio) v) ≡ b → Ranged (cond b (mode audioOff v) (mode (m .audio) v))
+      go true o =
+          let d = lsd-code code v e in
+          record { spoken = off-ranged .spoken; named = off-ranged .named; given = d .listed; apart = audio-off-apart v (lsd-small v (d .listed)) }
+      go false o =
+          let d = lsd-code code v e in
+          record { spoken = r .spoken; named = r .named; given = d .listed; apart = o }
+  by-command NoEffect e = r
+
+pub obeyed-in-range : (reading : Reading) (m : Mode) → inRange m ≡ true → inRange (obeyed reading m) ≡ true
+unfolding obeyed
+obeyed-in-range (Mended code) m t = in-range _ (by-command code m (ranged m t) (commandOf code) refl)
+obeyed-in-range (Item code) m t = t
+obeyed-in-range (MessageWord code) m t = t
+obeyed-in-range (ForbiddenItem code) m t = t
+obeyed-in-range (NotFollowed code) m t = t
+obeyed-in-range Unreadable m t = t
+obeyed-in-range NotRead m t = t

@@ -1,0 +1,49 @@
+-- `slots::code_reading` meets its contract: a case for each kind of slot.
+use borrow.Author.Needs.{needs}
+use Rattle.slots.proofs.code_reading.Statement.{statement}
+use Rattle.slots.proofs.code_reading.Tie as tie
+
+enum-told : tie.Need-enum-told
+enum-told c = search needs
+
+plain-reading-requires : tie.Need-plain-reading-requires
+plain-reading-requires c κs = search needs
+
+enum-told-2 : tie.Need-enum-told-2
+enum-told-2 c = search needs
+
+item-reading-requires : tie.Need-item-reading-requires
+item-reading-requires c κs = search needs
+
+enum-told-3 : tie.Need-enum-told-3
+enum-told-3 c = search needs
+
+enum-known-due : tie.Need-enum-known-due
+enum-known-due c = search needs
+
+returns : tie.Need-returns
+returns c = rw (c .plain-reading .ensures, c .before .enum-told .given .1)
+
+returns-2 : tie.Need-returns-2
+returns-2 c = rw (c .item-reading .ensures, c .before .enum-told2 .given .1)
+
+returns-3 : tie.Need-returns-3
+returns-3 c = rw (c .enum-told3 .given .1)
+
+returns-4 : tie.Need-returns-4
+returns-4 c = rw (c .before .due .given .1)
+
+pub code-reading-spec : {M : Type 1} → statement M
+code-reading-spec =
+    tie.close
+    (tie.spec
+    enum-told
+    plain-reading-requires
+    enum-told-2
+    item-reading-requires
+    enum-told-3
+    enum-known-due
+    returns
+    returns-2
+    returns-3
+    returns-4)

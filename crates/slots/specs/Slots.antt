@@ -1,0 +1,47 @@
+-- Document 01, 'Slots': what each word makes of the word after it.
+use Prim.Native.Nat.{ℕ, _-_}
+use mathlib.Core.Bool.{cond}
+use lib.Dec.{eqb}
+use Rattle.bas.specs.declared.Word.{Word}
+use Rattle.bas.specs.declared.Word.the-variants.{Code, Unreadable}
+use Rattle.modes.specs.Carried.{openingOf}
+use Rattle.modes.specs.declared.Opening.{Opening}
+use Rattle.modes.specs.declared.Opening.the-variants.{Nothing, Item, Message}
+use Rattle.slots.specs.declared.Due.{Due}
+use Rattle.slots.specs.declared.Due.the-variants.{Plain, AnItem, N, Words}
+
+-- (111)[0] to [23] make the next word an item; [24] stands alone; [25] to [31] open a message: the next word is N
+abbrev pub dueBy : Opening → Due
+dueBy Nothing = Plain
+dueBy Item = AnItem
+dueBy Message = N
+
+-- then so many words; a message with none left is over
+abbrev pub wordsDue : ℕ → Due
+wordsDue words = cond (eqb words 0) Plain (Words words)
+
+abbrev pub standing : Due → Due
+standing Plain = Plain
+standing AnItem = AnItem
+standing N = N
+standing (Words left) = wordsDue left
+
+-- an unreadable word fills its slot; if it was N, N is taken as 255
+abbrev pub lengthIn : Word → ℕ
+lengthIn (Code n) = n
+lengthIn Unreadable = 255
+
+-- elsewhere it is a filler
+abbrev pub openingIn : Word → Opening
+openingIn (Code code) = openingOf code
+openingIn Unreadable = Nothing
+
+-- one word per block: what is due after it. An item opens nothing, whatever it says
+abbrev pub dueAfterStanding : Due → Word → Due
+dueAfterStanding Plain word = dueBy (openingIn word)
+dueAfterStanding AnItem word = Plain
+dueAfterStanding N word = wordsDue (lengthIn word)
+dueAfterStanding (Words left) word = wordsDue (left - 1)
+
+unfoldable pub dueAfter : Due → Word → Due
+dueAfter due word = dueAfterStanding (standing due) word
