@@ -1,4 +1,5 @@
--- How the code sees the places of a mode: by four numbers. No public contract speaks of it; proofs/LayoutLaws shows that it is the rule of owners.
+-- How the code sees the places of a mode: by four numbers. Of the public contracts only that of `layout_of`, which the sorter shares, speaks of it;
+-- proofs/LayoutLaws shows that it is the rule of owners.
 use mathlib.Core.Path.{_≡_}
 use mathlib.Core.Bool.{Bool, cond}
 use mathlib.Core.List.{List, [], _∷_, _++_}

@@ -31,7 +31,7 @@ abbrev pub nextBy : Plan → Sender → ℕ → Sender
 nextBy p s remainder =
     record { chosen = p .chosen; mode = p .mode; block = following (s .block); due = p .due; remainder = remainder }
 
--- where a rule refuses, the state comes back as given and nothing lent changes
+-- where a row refuses, the state comes back as given and nothing lent changes
 abbrev pub outcomeBy : Verdict → Sender → Call → List ℕ → List ℕ → Outcome
 outcomeBy (Refuse r) s c voice lsd = record { state = s; answer = Refused r }
 outcomeBy (Goes rule) s c voice lsd =
