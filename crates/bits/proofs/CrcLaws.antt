@@ -1,17 +1,18 @@
 -- The facts of a remainder at width 4, and the CRC-4 of octets one after the other.
 use mathlib.Core.Path.{_≡_, refl, sym, ap, _∙_, subst}
-use mathlib.Core.Bool.{Bool}
+use mathlib.Core.Bool.{Bool, true}
 use mathlib.Core.List.{List, [], _∷_, _++_}
 use Prim.Native.Nat.{ℕ, zero, suc, _+_, _%_, _^_, _<_}
 use native.Mathlib.Nat.{add-zero, le-of-suc-le-suc}
 use native.Mathlib.Numerals.{add-one}
 use native.Mathlib.Omega.{arith}
-use lib.Dec.{lit<}
+use lib.Dec.{leb, lit<}
+use borrow.Author.Tests.{le-leb}
 use lib.Seq.{take-suc}
 use lib.ListN.{length, take, getD}
 use Rattle.bits.specs.Bits.{lowBits, bitsOf, number, xors}
 use Rattle.bits.specs.Remainder.{continued, remainder, Leaves}
-use Rattle.bits.specs.Crc.{crc4Generator, crc4Of, crc4From, summed, summedFrom}
+use Rattle.bits.specs.Crc.{crc4Generator, crc4Of, crc4From, summed, summedFrom, blockCrcOf}
 use Rattle.bits.proofs.BitLaws.{length-lowBits, lowBits-zero, lowBits-back, number-lowBits, number-fits, number-bound, bitsOf-append, length-bitsOf}
 use Rattle.bits.proofs.RemainderLaws.{length-continued, length-remainder, continued-append, remainder-xor, is-remainder, only-remainder}
 
@@ -21,6 +22,11 @@ unfolding crc4Of
 crc4-width s =
     let r = remainder crc4Generator (bitsOf s) in
     subst (λ (k : ℕ). number r < 2 ^ k) (length-remainder crc4Generator (bitsOf s)) (number-bound r)
+
+-- so the remainder of a block is at most 15
+pub crc-low : (block : List ℕ) → leb (blockCrcOf block) 15 ≡ true
+unfolding blockCrcOf
+crc-low block = let l = crc4-width (summedFrom 0 block) in le-leb (crc4Of (summedFrom 0 block)) 15 (omega arith)
 
 crc4-bits : (s : List ℕ) → lowBits 4 (crc4Of s) ≡ remainder crc4Generator (bitsOf s)
 unfolding crc4Of

@@ -1,19 +1,32 @@
--- Laws of modes: what being in range says, what a code is as a command, and that listed values are small.
+-- Laws of modes: that a block number goes on within its eight, what being in range says, what a code is as a command, and that listed values are small.
 use mathlib.Core.Path.{_≡_, refl, sym, ap, _∙_}
 use mathlib.Core.Bool.{Bool, true, false, false≢true, not, cond, _&&_}
-use Prim.Native.Nat.{ℕ, _/_, _<_}
+use Prim.Native.Nat.{ℕ, _+_, _/_, _<_}
 use native.Mathlib.Omega.{arith}
-use lib.Dec.{eqb, ltb}
-use borrow.Author.Tests.{eqb-true, eqb-false, ne-eqb, not-true, ltb-true, ltb-false}
-use Rattle.bits.proofs.Every.{and-left, and-right}
+use lib.Dec.{eqb, leb, ltb}
+use borrow.Author.Tests.{eqb-true, eqb-false, ne-eqb, not-true, ltb-true, ltb-false, le-leb}
+use Rattle.bits.proofs.Every.{and-left, and-right, and-make}
 use Rattle.modes.specs.Codes.{attribute, value, audioAttribute, lsdAttribute, neutral, audioOff, lsdOff, listedAudio, listedLsd}
 use Rattle.modes.specs.Table.{audioTable, lsdTable, beside, audioPlaces, lsdPlaces}
-use Rattle.modes.specs.Owners.{holds, heldBy, some, clash, overlaps}
+use Rattle.modes.specs.Numbers.{following}
+use Rattle.modes.specs.Owners.{within, holds, heldBy, some, clash, overlaps}
 use Rattle.modes.specs.Commands.{mode, inRange, commandOf}
+use Rattle.modes.specs.declared.BlockNumber.{BlockNumber}
 use Rattle.modes.specs.declared.Places.{Places}
 use Rattle.modes.specs.declared.Mode.{Mode}
 use Rattle.modes.specs.declared.Command.the-variants.{Neutral, SetAudio, SetLsd, NoEffect}
 use Rattle.modes.proofs.TableLaws.{audio-past, lsd-past}
+
+-- ---- a block is followed by one of the eight
+pub following-low : (b : BlockNumber) → within 1 8 ((following b) .0) ≡ true
+unfolding following
+following-low b = go (ltb (b .0) 8) refl
+  where
+    go : (t : Bool) → ltb (b .0) 8 ≡ t → within 1 8 (cond t (b .0 + 1) 1) ≡ true
+    go true e =
+        let l = ltb-true (b .0) 8 e in
+        and-make (leb 1 (b .0 + 1)) (leb (b .0 + 1) 8) (le-leb 1 (b .0 + 1) (omega arith)) (le-leb (b .0 + 1) 8 (omega arith))
+    go false e = refl
 
 -- ---- listed values are small
 pub audio-small : (v : ℕ) → listedAudio v ≡ true → v < 32

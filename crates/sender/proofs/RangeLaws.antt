@@ -7,17 +7,14 @@ use native.Mathlib.Omega.{arith}
 use lib.Dec.{eqb, leb, ltb}
 use borrow.Author.Tests.{ltb-true, le-leb, eq-eqb}
 use lib.ListN.{length}
-use Rattle.bits.specs.Crc.{crc4Of, blockCrcOf, summedFrom}
-use Rattle.bits.proofs.CrcLaws.{crc4-width}
+use Rattle.bits.proofs.CrcLaws.{crc-low}
 use Rattle.bits.proofs.Every.{and-left, and-right, and-make}
 use Rattle.modes.specs.Codes.{value, lsdAttribute, audioOff, written}
-use Rattle.modes.specs.Numbers.{following}
 use Rattle.modes.specs.Owners.{within, overlaps}
 use Rattle.modes.specs.Commands.{mode, inRange, commandOf, offered}
-use Rattle.modes.specs.declared.BlockNumber.{BlockNumber}
 use Rattle.modes.specs.declared.Command.{Command}
 use Rattle.modes.specs.declared.Command.the-variants.{Neutral, SetAudio, SetLsd, NoEffect}
-use Rattle.modes.proofs.ModeLaws.{Ranged, ranged, in-range, audio-code, lsd-code, audio-small, lsd-small, off-ranged}
+use Rattle.modes.proofs.ModeLaws.{following-low, Ranged, ranged, in-range, audio-code, lsd-code, audio-small, lsd-small, off-ranged}
 use Rattle.sender.specs.State.{follows, stateInRange, freshWith}
 use Rattle.sender.specs.Plans.{sounds, planBy}
 use Rattle.sender.specs.Refusals.{isAudio, isLsd, clashes, goesPlain}
@@ -58,20 +55,6 @@ kept s t =
 pub keeps : (s : Sender) → Kept s → stateInRange s ≡ true
 unfolding stateInRange
 keeps s k = rw (in-range (mode (s .chosen) (s .mode .lsd)) (k .ranges), k .force, k .block, k .rest)
-
-following-low : (b : BlockNumber) → within 1 8 ((following b) .0) ≡ true
-unfolding following
-following-low b = go (ltb (b .0) 8) refl
-  where
-    go : (t : Bool) → ltb (b .0) 8 ≡ t → within 1 8 (cond t (b .0 + 1) 1) ≡ true
-    go true e =
-        let l = ltb-true (b .0) 8 e in
-        and-make (leb 1 (b .0 + 1)) (leb (b .0 + 1) 8) (le-leb 1 (b .0 + 1) (omega arith)) (le-leb (b .0 + 1) 8 (omega arith))
-    go false e = refl
-
-crc-low : (block : List ℕ) → leb (blockCrcOf block) 15 ≡ true
-unfolding blockCrcOf
-crc-low block = let l = crc4-width (summedFrom 0 block) in le-leb (crc4Of (summedFrom 0 block)) 15 (omega arith)
 
 -- ---- what an offered command leaves
 or-left : (a b : Bool) → (a || b) ≡ false → a ≡ false

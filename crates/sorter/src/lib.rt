@@ -66,7 +66,7 @@ fn run_of(p: Layout, t: Stream, o: usize) -> Run
 }
 
 // Zero to the bit, before anything is packed: so what is past the end of the stream's bits is zero.
-fn clear(out: &mut [u8])
+pub fn clear(out: &mut [u8])
     ensures { λ _. ⌜ now (out .exit) ≡ replicate (length (now (out .entry))) 0 ⌝ }
 {
     let mut i = 0;

@@ -1,0 +1,32 @@
+-- `reader::place_after` meets its contract: the place is unknown, after block 6, or after another.
+use borrow.Author.Tests.{eq-eqb, ne-eqb}
+use Rattle.reader.specs.Parts.{placeAfter}
+use borrow.Author.Needs.{needs}
+use Rattle.reader.proofs.place_after.Statement.{statement}
+use Rattle.reader.proofs.place_after.Tie as tie
+
+returns : tie.Need-returns
+unfolding placeAfter
+returns c = rw (eq-eqb _ _ (c .before .if1 .taken), c .if2 .taken)
+
+returns-2 : tie.Need-returns-2
+unfolding placeAfter
+returns-2 c = rw (eq-eqb _ _ (c .before .if1 .taken), c .if2 .left)
+
+compare-requires : tie.Need-compare-requires
+compare-requires c κs = search needs
+
+returns-3 : tie.Need-returns-3
+unfolding placeAfter
+returns-3 c = rw (c .compare .ensures, ne-eqb _ _ (c .before .before .before .if1 .left), eq-eqb _ _ (c .before .if3 .taken))
+
+next-block-requires : tie.Need-next-block-requires
+next-block-requires c κs = search needs
+
+returns-4 : tie.Need-returns-4
+unfolding placeAfter
+returns-4 c = rw (c .next-block .ensures, ne-eqb _ _ (c .before .before .before .if1 .left), ne-eqb _ _ (c .before .if3 .left))
+
+pub place-after-spec : {M : Type 1} → statement M
+place-after-spec =
+    tie.close (tie.spec returns returns-2 compare-requires returns-3 next-block-requires returns-4)

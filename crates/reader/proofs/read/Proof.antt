@@ -1,0 +1,63 @@
+-- `reader::read` meets its contract: by its ruling.
+use mathlib.Core.Path.{sym, ap, _∙_}
+use denote.Ref.{now}
+use Rattle.reader.specs.Step.{stepOf}
+use Rattle.reader.proofs.OutcomeLaws.{taken, taken-fitting, refused-is, taken-is}
+use Rattle.reader.proofs.RangeLaws.{kept}
+use borrow.Author.Needs.{needs}
+use Rattle.reader.proofs.read.Statement.{statement}
+use Rattle.reader.proofs.read.Tie as tie
+
+ruling-of-requires : tie.Need-ruling-of-requires
+ruling-of-requires c κs = search needs
+
+enum-known-ruling : tie.Need-enum-known-ruling
+enum-known-ruling c = search needs
+
+enum-told : tie.Need-enum-told
+enum-told c = search needs
+
+signs-of-requires : tie.Need-signs-of-requires
+signs-of-requires c κs = search needs
+
+step-requires : tie.Need-step-requires
+step-requires c κs =
+    let t = taken _ _ _ _ (sym (c .before .before .before .ruling-of .ensures) ∙ c .before .enum-told .given .1) in
+    let k = kept _ (t .range) in
+    (k .wrong-low, k .misses-low)
+
+hand-requires : tie.Need-hand-requires
+hand-requires c κs = taken-fitting _ _ _ _ (sym (c .before .before .before .before .before .before .before .before .ruling-of .ensures) ∙ c .before .before .before .before .before .before .enum-told .given .1)
+
+returns : tie.Need-returns
+returns c = refused-is _ _ _ _ _ (sym (c .before .before .before .ruling-of .ensures) ∙ c .before .ruling .given .1)
+
+same-length : tie.Need-same-length
+same-length c = search needs
+
+same-length-2 : tie.Need-same-length-2
+same-length-2 c = search needs
+
+returns-2 : tie.Need-returns-2
+returns-2 c =
+    let a = c .before .before .before .before .before .before .before .before .before .before .before .before .before .before .before .before .before .before .args in
+    taken-is (a .state) (now (a .line)) (now (a .voice)) (now (a .lsd)) _ _ _
+    (sym (c .before .before .before .before .before .before .before .before .before .before .before .before .before .ruling-of .ensures) ∙ c .before .before .before .before .before .before .before .before .before .before .before .enum-told .given .1)
+    (c .before .before .before .before .before .before .before .before .before .step .ensures ∙ ap (stepOf (a .state)) (c .before .before .before .before .before .before .before .before .before .before .signs-of .ensures))
+    (c .before .before .before .before .hand .ensures .0)
+    (c .before .before .before .before .hand .ensures .1)
+
+pub read-spec : {M : Type 1} → statement M
+read-spec =
+    tie.close
+    (tie.spec
+    ruling-of-requires
+    enum-known-ruling
+    enum-told
+    signs-of-requires
+    step-requires
+    hand-requires
+    returns
+    same-length
+    same-length-2
+    returns-2)

@@ -1,0 +1,5 @@
+pub mod State
+pub mod Signs
+pub mod Parts
+pub mod Step
+pub mod Refusals
