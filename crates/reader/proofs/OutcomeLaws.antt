@@ -47,6 +47,12 @@ taken-fitting s line voice lsd e =
     let t = taken s line voice lsd e in
     rw (eq-eqb line 160 (t .line-fits), eq-eqb voice 140 (t .voice-fits), eq-eqb lsd 156 (t .lsd-fits))
 
+-- and where they are so, the block is taken
+pub takes : (s : Reader) (line voice lsd : ℕ) → Taken s line voice lsd → rulingOf s line voice lsd ≡ Take
+unfolding rulingOf
+takes s line voice lsd t =
+    rw (t .range, eq-eqb line 160 (t .line-fits), eq-eqb voice 140 (t .voice-fits), eq-eqb lsd 156 (t .lsd-fits))
+
 -- ---- the answer's number is that of the smallest row that is given
 number-is : (s : Reader) (line voice lsd : List ℕ)
     → numberIn ((outcomeOf s line voice lsd) .answer) ≡ refusalNumber s (length line) (length voice) (length lsd)
@@ -79,6 +85,15 @@ module _ (s : Reader) (line voice lsd : List ℕ) where
       → Told s line voice lsd (record { state = p .state; answer = Block (p .report) }) v d
   unfolding outcomeOf voiceOf lsdOf
   taken-is p v d e a b f = told _ _ _ (rw (e, a)) (rw (e, b, a)) (rw (e, f, a))
+
+  -- what the contract says of a block that is taken
+  pub told-taken : (r : Outcome) (v d : List ℕ) → ruled s line voice lsd ≡ Take → Told s line voice lsd r v d
+      → (let p = stepOf s (signsOf line) in
+      (r ≡ record { state = p .state; answer = Block (p .report) })
+      × (v ≡ voiceBy (p .report .standing) (s .mode) line)
+      × (d ≡ lsdBy (p .report .standing) (s .mode) line))
+  unfolding outcomeOf voiceOf lsdOf
+  told-taken r v d e t = (rw e at (t .outcome), rw e at (t .heard), rw e at (t .given))
 
 -- any two outcomes that the contract of a reading call allows are equal
 pub read-settled : (s : Reader) (line voice lsd : List ℕ) (r q : Outcome) (v w d e : List ℕ)

@@ -1,0 +1,117 @@
+-- Document 01, 'Finding alignment': one step of a walk, which keeps a recording, a place in it, and whether the block before was lost.
+use mathlib.Core.Path.{_≡_}
+use mathlib.Core.Bool.{Bool, true, false, cond}
+use mathlib.Core.List.{List}
+use Prim.Native.Nat.{ℕ, _+_, _-_}
+use lib.Dec.{ltb}
+use lib.ListN.{length, take, drop}
+use Rattle.reader.specs.State.{stateInRange}
+use Rattle.reader.specs.Signs.{signsOf}
+use Rattle.reader.specs.Step as reading
+use Rattle.reader.specs.declared.Reader.{Reader}
+use Rattle.reader.specs.declared.Report.{Report}
+use Rattle.reader.specs.declared.Stepped as read
+use Rattle.reader.specs.declared.Standing.{Standing}
+use Rattle.reader.specs.declared.Standing.the-variants.{Waiting, Read, Lost}
+use Rattle.search.specs.Finding.{searchOf}
+use Rattle.search.specs.declared.Found.{Found}
+use Rattle.recording.specs.Refusals.{rulingOf}
+use Rattle.recording.specs.declared.Ruling.{Ruling}
+use Rattle.recording.specs.declared.Ruling.the-variants.{Refuse, Go}
+use Rattle.recording.specs.declared.Answer.{Answer}
+use Rattle.recording.specs.declared.Answer.the-variants.{Block, Place, End, Refused}
+use Rattle.recording.specs.declared.Stepped.{Stepped}
+
+-- the octets left from a place on, and the block there
+abbrev pub leftFrom : List ℕ → ℕ → ℕ
+leftFrom recording place = length recording - place
+
+abbrev pub blockAt : List ℕ → ℕ → List ℕ
+blockAt recording place = take 160 (drop place recording)
+
+-- what the reader makes of it
+abbrev pub readAt : Reader → List ℕ → ℕ → read.Stepped
+readAt s recording place = reading.stepOf s (signsOf (blockAt recording place))
+
+abbrev pub blockRead : Reader → List ℕ → ℕ → Answer
+blockRead s recording place = Block ((readAt s recording place) .report)
+
+-- after a lost block the next step searches from the octet after it and answers the new place, or "end" and the octets left where that
+-- search is refused
+abbrev pub foundAgain : Found → ℕ → Answer
+foundAgain (Found.Place p) left = Place p
+foundAgain (Found.Refused r) left = End left
+
+-- else one block a step; with fewer than 160 octets left a step answers "end" and that number
+abbrev pub answerHere : List ℕ → ℕ → Bool → Reader → Answer
+answerHere recording place lost s =
+    let left = leftFrom recording place in
+    cond lost (foundAgain (searchOf recording place) left) (cond (ltb left 160) (End left) (blockRead s recording place))
+
+abbrev pub answerBy : Ruling → List ℕ → ℕ → Bool → Reader → Answer
+answerBy (Refuse r) recording place lost s = Refused r
+answerBy Go recording place lost s = answerHere recording place lost s
+
+-- a block moves the walk on by its octets; a step that answers a place moves the walk there, "end" moves nothing, nor does a refusal
+abbrev pub placeBy : Answer → ℕ → ℕ
+placeBy (Block report) place = place + 160
+placeBy (Place p) place = p
+placeBy (End left) place = place
+placeBy (Refused r) place = place
+
+abbrev pub isLost : Report → Bool
+isLost report = lost (report .standing)
+  where
+    lost : Standing → Bool
+    lost Waiting = false
+    lost Read = false
+    lost Lost = true
+
+abbrev pub lostBy : Answer → Bool → Bool
+lostBy (Block report) lost = isLost report
+lostBy (Place p) lost = false
+lostBy (End left) lost = lost
+lostBy (Refused r) lost = lost
+
+-- all but a block leave the reader's state and the lent buffers untouched
+abbrev pub readerBy : Answer → List ℕ → ℕ → Reader → Reader
+readerBy (Block report) recording place s = (readAt s recording place) .state
+readerBy (Place p) recording place s = s
+readerBy (End left) recording place s = s
+readerBy (Refused r) recording place s = s
+
+abbrev pub voiceBy : Answer → List ℕ → ℕ → Reader → List ℕ → List ℕ
+voiceBy (Block report) recording place s voice = reading.voiceBy (report .standing) (s .mode) (blockAt recording place)
+voiceBy (Place p) recording place s voice = voice
+voiceBy (End left) recording place s voice = voice
+voiceBy (Refused r) recording place s voice = voice
+
+abbrev pub lsdBy : Answer → List ℕ → ℕ → Reader → List ℕ → List ℕ
+lsdBy (Block report) recording place s lsd = reading.lsdBy (report .standing) (s .mode) (blockAt recording place)
+lsdBy (Place p) recording place s lsd = lsd
+lsdBy (End left) recording place s lsd = lsd
+lsdBy (Refused r) recording place s lsd = lsd
+
+abbrev pub steppedBy : Answer → List ℕ → ℕ → Bool → Reader → Stepped
+steppedBy a recording place lost s =
+    record { answer = a; reader = readerBy a recording place s; place = placeBy a place; lost = lostBy a lost }
+
+-- ---- the step: its answer, and what it leaves of the walk, the reader and the buffers
+unfoldable pub answerAt : List ℕ → ℕ → Bool → Reader → List ℕ → List ℕ → Answer
+answerAt recording place lost s voice lsd =
+    answerBy (rulingOf (length recording) place s (length voice) (length lsd)) recording place lost s
+
+unfoldable pub stepAt : List ℕ → ℕ → Bool → Reader → List ℕ → List ℕ → Stepped
+stepAt recording place lost s voice lsd = steppedBy (answerAt recording place lost s voice lsd) recording place lost s
+
+unfoldable pub voiceAt : List ℕ → ℕ → Bool → Reader → List ℕ → List ℕ → List ℕ
+voiceAt recording place lost s voice lsd = voiceBy (answerAt recording place lost s voice lsd) recording place s voice
+
+unfoldable pub lsdAt : List ℕ → ℕ → Bool → Reader → List ℕ → List ℕ → List ℕ
+lsdAt recording place lost s voice lsd = lsdBy (answerAt recording place lost s voice lsd) recording place s lsd
+
+-- a reader's state in range, and buffers of the right lengths
+pub record Ready (s : Reader) (voice lsd : ℕ) : Type 0 where
+  pub range : stateInRange s ≡ true
+  pub heard : voice ≡ 140
+  pub given : lsd ≡ 156

@@ -1,0 +1,40 @@
+-- Document 01, 'Finding alignment', and 'Refusal numbers', rows 9 and 10.
+use mathlib.Core.Bool.{Bool, cond, _&&_, _||_}
+use mathlib.Core.List.{List}
+use Prim.Native.Nat.{ℕ, zero, suc, _+_, _-_}
+use lib.Dec.{eqb, leb, ltb}
+use lib.ListN.{length, getD, drop}
+use Rattle.bits.specs.Bits.{odd, number}
+use Rattle.frame.specs.Service.{evenAlignment}
+use Rattle.frame.specs.Channel.{channelBits}
+use Rattle.search.specs.declared.Refusal.{Refusal}
+use Rattle.search.specs.declared.Refusal.the-variants.{RecordingLength, NoPlace}
+use Rattle.search.specs.declared.Found.{Found}
+use Rattle.search.specs.declared.Found.the-variants.{Place, Refused}
+
+-- SC has 0011011 at the seven offsets from this one on; seven bits are these where they spell the same number
+unfoldable pub spells : ℕ → List ℕ → Bool
+spells at part = eqb (number (channelBits 7 at part)) (number evenAlignment)
+
+-- one place, with the recording from that place on: SC has 0011011 at offsets 1 to 7, 1 at 81, 0011011 at 161 to 167, all 168 octets inside
+unfoldable pub aligned : List ℕ → Bool
+aligned part = spells 1 part && odd (getD part 81 0) && spells 161 part && leb 168 (length part)
+
+-- the smallest such place of the n from this one on; row 10: no such place
+unfoldable pub firstOf : ℕ → ℕ → List ℕ → Found
+firstOf zero at recording = Refused NoPlace
+firstOf (suc n) at recording = cond (aligned (drop at recording)) (Place at) (firstOf n (at + 1) recording)
+
+-- row 9: the recording is over 65,536 octets, or under 168 from the start on; past the end there are none
+unfoldable pub badLength : List ℕ → ℕ → Bool
+badLength recording start = ltb 65536 (length recording) || ltb (length recording - start) 168
+
+-- the search begins at a given octet of the recording; smaller number first
+unfoldable pub searchOf : List ℕ → ℕ → Found
+searchOf recording start =
+    cond (badLength recording start) (Refused RecordingLength) (firstOf (length recording - start) start recording)
+
+-- document 01's number of each refusal
+abbrev pub numberOf : Refusal → ℕ
+numberOf RecordingLength = 9
+numberOf NoPlace = 10

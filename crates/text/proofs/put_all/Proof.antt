@@ -1,0 +1,69 @@
+-- `text::put_all` meets its contract. The loop's invariant: the first i octets are written.
+use borrow.Author.Needs.{needs}
+use native.Mathlib.Omega.{arith}
+use native.Mathlib.Numerals.{add-one}
+use Prim.Native.Nat.{_-_, _≤_}
+use denote.Ref.{now}
+use lib.ListN.{length, take}
+use lib.Seq.{take-suc, take-all}
+use Rattle.text.specs.Over.{Written}
+use Rattle.text.proofs.OverLaws.{written-length, written-none, written-then}
+use Rattle.text.proofs.put_all.Statement.{statement}
+use Rattle.text.proofs.put_all.Tie as tie
+
+abbrev Inv-loop : tie.InvT-loop
+Inv-loop text₀ at xs place₀ i₀ text place i = (i ≤ length xs) × Written at (take i xs) text₀ place text
+
+abbrev μ-loop : tie.MeasureT-loop
+μ-loop text₀ at xs place₀ i₀ text place i = length xs - i
+
+place-in-requires : tie.Need-place-in-requires Inv-loop μ-loop
+place-in-requires c κs = search needs
+
+loop-holds : tie.Need-loop-holds Inv-loop μ-loop
+loop-holds c = (search needs, written-none _ _ _ (c .place-in .ensures))
+
+shared-slice-read-put : tie.Need-shared-slice-read-put Inv-loop μ-loop
+shared-slice-read-put c = search needs
+
+put-requires : tie.Need-put-requires Inv-loop μ-loop
+put-requires c κs = search needs
+
+add-i : tie.Need-add-i Inv-loop μ-loop
+add-i c = search needs
+
+loop-less : tie.Need-loop-less Inv-loop μ-loop
+loop-less c = search needs
+
+loop-again : tie.Need-loop-again Inv-loop μ-loop
+loop-again c =
+    let l = c .before .before .before .before .before .before .loop in
+    let xs = now (c .before .before .before .before .before .before .before .before .before .before .args .xs) in (
+      omega arith,
+      rw (add-one (l .i), take-suc xs (l .i) 0 (omega arith)) (written-then (l .inv .1) (c .before .before .put .ensures)),
+    )
+
+same-length : tie.Need-same-length Inv-loop μ-loop
+same-length c = written-length (c .before .loop .inv .1)
+
+returns : tie.Need-returns Inv-loop μ-loop
+returns c =
+    let l = c .before .loop in
+    let xs = now (c .before .before .before .before .before .args .xs) in
+    rw (take-all (l .i) xs (omega arith)) at (l .inv .1)
+
+pub put-all-spec : {M : Type 1} → statement M
+put-all-spec =
+    tie.close
+    (tie.spec
+    Inv-loop
+    μ-loop
+    place-in-requires
+    loop-holds
+    shared-slice-read-put
+    put-requires
+    add-i
+    loop-less
+    loop-again
+    same-length
+    returns)

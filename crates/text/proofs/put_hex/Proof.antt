@@ -1,0 +1,33 @@
+-- `text::put_hex` meets its contract: two digits one after the other.
+use borrow.Author.Needs.{needs}
+use Rattle.text.specs.Digits.{hexOf}
+use Rattle.text.proofs.OverLaws.{written-then}
+use Rattle.text.proofs.put_hex.Statement.{statement}
+use Rattle.text.proofs.put_hex.Tie as tie
+
+digit-requires : tie.Need-digit-requires
+digit-requires c κs = search needs
+
+put-requires : tie.Need-put-requires
+put-requires c κs = search needs
+
+digit-requires-2 : tie.Need-digit-requires-2
+digit-requires-2 c κs = search needs
+
+put-requires-2 : tie.Need-put-requires-2
+put-requires-2 c κs = search needs
+
+same-length : tie.Need-same-length
+same-length c = search needs
+
+returns : tie.Need-returns
+unfolding hexOf
+returns c =
+    let first = c .before .before .before .before .before .before .before in
+    let second = c .before .before in
+    rw (← (first .before .digit .ensures), ← (second .before .digit2 .ensures)) (written-then (first .put .ensures) (second .put2 .ensures))
+
+pub put-hex-spec : {M : Type 1} → statement M
+put-hex-spec =
+    tie.close
+    (tie.spec digit-requires put-requires digit-requires-2 put-requires-2 same-length returns)
