@@ -4,7 +4,7 @@ mod commands;
 
 use std::process::ExitCode;
 
-use commands::Options;
+use commands::{Options, Stop};
 
 const HELP: &str = "\
 A plain model of document 01: one framed 64 kbit/s channel, its BAS words and its CRC-4.
@@ -29,12 +29,26 @@ model session
     Prints one fixed session of 52 sending calls with every rule of sending and refusals 1 to 8: each call's
     number, offered code, flags, answer and the state that it leaves, and then the block that it wrote.
 
+model recordings > COLLECTION
+    Writes a fixed collection of recordings with every rule of reading. Each is one octet with the number of
+    its blocks, 1 to 255, and then these blocks of 160 octets.
+
+model reading < COLLECTION
+    Prints for each recording what a fresh reader answers to its blocks, handed to it one after another with no
+    search: standing, verdict, reading; voice and data up to their last octet that is not zero; and the state
+    left, where an unknown block is 0, firsts are the first bits as a number, and due is 0 0 (nothing), 1 0
+    (item), 2 0 (N) or 3 and the words left. Then come six calls that are refused.
+    A collection that ends within a recording is told on standard error, with status 1.
+
 model list < RECORDING
     Prints 01's listing of standard input.
 
 model read < RECORDING
     Prints each step of a walk from the first place found: the answer, the octets of voice and data that
     count, and the reader's state.
+
+model listings DIR
+    Writes recordings NAME.raw with their listings NAME.txt into the folder DIR.
 
 model --help
     Prints this.
@@ -43,34 +57,42 @@ model --help
 fn main() -> ExitCode {
     match run(std::env::args_os().skip(1).collect()) {
         Ok(()) => ExitCode::SUCCESS,
-        Err(message) => {
+        Err(Stop::Call(message)) => {
             eprintln!("model: {message}\nmodel --help explains the commands.");
             ExitCode::from(2)
+        }
+        Err(Stop::Input(message)) => {
+            eprintln!("model: {message}");
+            ExitCode::from(1)
         }
     }
 }
 
-fn run(arguments: Vec<std::ffi::OsString>) -> Result<(), String> {
+fn run(arguments: Vec<std::ffi::OsString>) -> Result<(), Stop> {
     let mut words = Vec::new();
     for argument in arguments {
         words.push(argument.into_string().map_err(|a| format!("argument {a:?} is not text"))?);
     }
     if words.iter().any(|word| word == "--help" || word == "-h" || word == "help") {
-        return commands::written(print_help());
+        return Ok(commands::written(print_help())?);
     }
     if words.is_empty() {
-        return Err("no command".to_string());
+        return Err(Stop::Call("no command".to_string()));
     }
     let command = words.remove(0);
     let options = Options::new(words);
     match command.as_str() {
-        "vectors" => commands::vectors::run(options),
-        "send" => commands::send::run(options),
-        "session" => commands::session::run(options),
-        "list" => commands::list::run(options),
-        "read" => commands::read::run(options),
-        other => Err(format!("unknown command \"{other}\"")),
+        "vectors" => commands::vectors::run(options)?,
+        "send" => commands::send::run(options)?,
+        "session" => commands::session::run(options)?,
+        "recordings" => commands::recordings::run(options)?,
+        "reading" => commands::reading::run(options)?,
+        "list" => commands::list::run(options)?,
+        "listings" => commands::listings::run(options)?,
+        "read" => commands::read::run(options)?,
+        other => return Err(Stop::Call(format!("unknown command \"{other}\""))),
     }
+    Ok(())
 }
 
 fn print_help() -> std::io::Result<()> {

@@ -1,12 +1,30 @@
 //! The commands of the program.
 
 pub mod list;
+pub mod listings;
 pub mod read;
+pub mod reading;
+pub mod recordings;
 pub mod send;
 pub mod session;
+pub mod tape;
 pub mod vectors;
 
 use std::io;
+
+/// Why the program stops before its end.
+pub enum Stop {
+    /// It cannot do what it was called for.
+    Call(String),
+    /// What it was given to read is not what it takes.
+    Input(String),
+}
+
+impl From<String> for Stop {
+    fn from(message: String) -> Stop {
+        Stop::Call(message)
+    }
+}
 
 /// The arguments of a command: a word, then options with a value each.
 pub struct Options {

@@ -12,7 +12,7 @@ use model::service::Flags;
 
 /// The inputs of one call that the user gives.
 #[derive(Clone, Copy, Debug, PartialEq, Eq)]
-struct Offer {
+pub struct Offer {
     code: u8,
     mute: bool,
     flags: Flags,
@@ -76,7 +76,7 @@ fn from_preset(text: &str) -> Result<SenderState, String> {
 }
 
 /// The calls of a list: `HH`, `HH:FLAGS`, `HH*N` or `HH:FLAGS*N`, parted by commas, spaces or new lines.
-fn offers(text: &str) -> Result<Vec<Offer>, String> {
+pub fn offers(text: &str) -> Result<Vec<Offer>, String> {
     let mut offers = Vec::new();
     for line in text.lines() {
         let list = line.split('#').next().unwrap_or("");
@@ -136,7 +136,8 @@ fn one_call(state: &mut SenderState, offer: &Offer, data: Option<&mut File>, num
     Ok(line)
 }
 
-fn call<'a>(offer: &Offer, voice: &'a [u8], data: &'a [u8]) -> Call<'a> {
+/// The call of an offer with its two buffers.
+pub fn call<'a>(offer: &Offer, voice: &'a [u8], data: &'a [u8]) -> Call<'a> {
     Call { mute: offer.mute, offered: offer.code, flags: offer.flags, voice, data }
 }
 

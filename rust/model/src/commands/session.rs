@@ -2,6 +2,7 @@
 
 use std::io::{self, BufWriter, Write};
 
+use super::tape::octets;
 use super::{written, Options};
 use model::frame::{BLOCK_OCTETS, DATA_OCTETS, VOICE_OCTETS};
 use model::refusal::Refusal;
@@ -116,10 +117,6 @@ fn print_call(out: &mut impl Write, state: &mut SenderState, number: usize, code
 /// A length, or one octet less.
 fn less(length: usize, short: bool) -> usize {
     length - usize::from(short)
-}
-
-fn octets(length: usize, rule: impl Fn(usize) -> usize) -> Vec<u8> {
-    (0..length).map(|i| rule(i) as u8).collect()
 }
 
 fn words(answer: Result<Answer, Refusal>) -> String {

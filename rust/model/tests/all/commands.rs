@@ -5,7 +5,7 @@ use std::process::{Command, Output, Stdio};
 
 use model::vectors::forge::{idle, spoil};
 
-fn run(arguments: &[&str], input: &[u8]) -> Output {
+pub fn run(arguments: &[&str], input: &[u8]) -> Output {
     let mut child = Command::new(env!("CARGO_BIN_EXE_model"))
         .args(arguments)
         .stdin(Stdio::piped())
@@ -20,7 +20,7 @@ fn run(arguments: &[&str], input: &[u8]) -> Output {
     child.wait_with_output().expect("the program ends")
 }
 
-fn text(octets: &[u8]) -> String {
+pub fn text(octets: &[u8]) -> String {
     String::from_utf8_lossy(octets).to_string()
 }
 
@@ -126,21 +126,54 @@ fn session_has_every_answer() {
 }
 
 #[test]
+fn reading_prints_each_block_and_six_refusals() {
+    let output = run(&["reading"], &[&[1], &idle(1)[..]].concat());
+    assert!(output.status.success());
+    let state = "mode 31 0 kept 31 0 wrong 0 block 0 firsts 62 misses 0 due 0 0 before 1 remainder 12";
+    let block = format!("1 waiting none not read\n  voice -\n  data -\n  {state}\n");
+    let refused = [1, 2, 3, 4, 1, 2].map(|number| format!("refused {number} untouched\n")).concat();
+    assert_eq!(text(&output.stdout), format!("recording 1: 1 blocks\n{block}{refused}"));
+    assert_eq!(text(&run(&["reading"], &[]).stdout), refused);
+}
+
+#[test]
+fn reading_stops_where_a_recording_is_cut() {
+    let whole = [&[2], &idle(2)[..]].concat();
+    for cut in [&[1][..], &[1, 0x55], &[1; 160], &[0]] {
+        let output = run(&["reading"], &[&whole, cut].concat());
+        assert_eq!(output.status.code(), Some(1), "{cut:?}");
+        assert!(text(&output.stderr).starts_with("model: ") && text(&output.stderr).contains("recording 2"));
+        assert!(text(&output.stdout).starts_with("recording 1: 2 blocks\n"), "what is whole is read");
+        assert!(!text(&output.stdout).contains("refused"), "{cut:?}");
+    }
+}
+
+#[test]
 fn help_explains() {
     let output = run(&["--help"], &[]);
     assert!(output.status.success());
-    for word in ["model vectors", "model send", "model session", "model list", "--seed", "--script"] {
-        assert!(text(&output.stdout).contains(word));
+    let help = text(&output.stdout);
+    for command in ["vectors", "send", "session", "recordings", "reading", "list", "listings", "read"] {
+        let name = format!("model {command}");
+        assert!(help.lines().any(|line| line == name || line.starts_with(&format!("{name} "))), "{command}");
+    }
+    for option in ["--seed", "--script"] {
+        assert!(help.contains(option));
     }
 }
 
 #[test]
 fn wrong_usage_is_told() {
-    let calls: [&[&str]; 15] = [
+    let calls: [&[&str]; 20] = [
         &[],
         &["dance"],
         &["list", "file"],
         &["session", "file"],
+        &["recordings", "file"],
+        &["reading", "file"],
+        &["listings"],
+        &["listings", "/dev/null/folder"],
+        &["listings", "/dev/null/folder", "file"],
         &["read", "file"],
         &["vectors", "everything"],
         &["vectors", "--seed"],

@@ -11,5 +11,6 @@ mod reading;
 mod refusals;
 mod sending;
 mod sessions;
+mod stored;
 mod vector_text;
 mod walking;
