@@ -9,8 +9,9 @@ use borrow.Author.Tests.{eqb-false, leb-true, le-leb}
 use Rattle.bits.proofs.CrcLaws.{crc-low}
 use Rattle.bits.proofs.Every.{and-left, and-right}
 use Rattle.modes.specs.Numbers.{following}
-use Rattle.modes.specs.Commands.{inRange}
-use Rattle.modes.proofs.ModeLaws.{following-low}
+use Rattle.modes.specs.Codes.{audioOff, lsdOff}
+use Rattle.modes.specs.Commands.{mode, inRange}
+use Rattle.modes.proofs.ModeLaws.{following-low, in-range, off-ranged}
 use Rattle.slots.specs.Readings.{obeyed}
 use Rattle.slots.specs.declared.Due.{Due}
 use Rattle.slots.specs.declared.Due.the-variants.{Plain, AnItem, N, Words}
@@ -137,11 +138,20 @@ module _ (s : Reader) (g : Signs) (k : Kept s) (low : leb (g .remainder) 15 ≡ 
       go true e = rw e (fresh-kept s k)
       go false e = rw e (next-kept e)
 
--- a call on a state in range leaves one in range
+-- a fresh state is in range
+pub fresh-in-range : stateInRange (freshIn (mode audioOff lsdOff)) ≡ true
+fresh-in-range =
+    let m = in-range (mode audioOff lsdOff) off-ranged in
+    keeps _ (record { force = m; back = m; wrong-low = omega arith; misses-low = omega arith; rest = refl; place = omega arith })
+
+-- a block taken on a state in range leaves one in range, and so does a call
+pub step-in-range : (s : Reader) (line : List ℕ) → stateInRange s ≡ true → stateInRange ((stepOf s (signsOf line)) .state) ≡ true
+step-in-range s line r = keeps _ (step-kept s (signsOf line) (kept s r) (crc-low line))
+
 pub stays-in-range : (s : Reader) (line voice lsd : List ℕ) → stateInRange s ≡ true → stateInRange ((outcomeOf s line voice lsd) .state) ≡ true
 unfolding outcomeOf
 stays-in-range s line voice lsd r = go (ruled s line voice lsd) refl
   where
     go : (q : Ruling) → ruled s line voice lsd ≡ q → stateInRange ((outcomeOf s line voice lsd) .state) ≡ true
     go (Refuse why) e = rw e r
-    go Take e = rw e (keeps _ (step-kept s (signsOf line) (kept s r) (crc-low line)))
+    go Take e = rw e (step-in-range s line r)

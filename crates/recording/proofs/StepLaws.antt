@@ -7,7 +7,7 @@ use native.Mathlib.Omega.{arith}
 use lib.Dec.{eqb, ltb}
 use lib.ListN.{length, take, drop, length-drop}
 use lib.Seq.{length-take-le}
-use borrow.Author.Tests.{eqb-true, ltb-false}
+use borrow.Author.Tests.{eqb-true, eq-eqb, ltb-false, le-ltb}
 use Rattle.bits.proofs.Settled.{settled}
 use Rattle.reader.specs.State.{stateInRange}
 use Rattle.reader.specs.Step as reading
@@ -17,14 +17,18 @@ use Rattle.reader.specs.declared.Outcome.{Outcome}
 use Rattle.reader.specs.declared.Answer as answer
 use Rattle.reader.specs.declared.Refusal as refusal
 use Rattle.reader.proofs.OutcomeLaws.{takes, told-taken}
+use Rattle.reader.proofs.RangeLaws.{step-in-range}
+use Rattle.search.specs.Finding.{searchOf}
 use Rattle.search.specs.declared.Found.{Found}
+use Rattle.search.proofs.PlaceLaws.{found-fits}
 use Rattle.recording.specs.Refusals.{rulingOf}
-use Rattle.recording.specs.Walk.{blockAt, readAt, blockRead, foundAgain, isLost, answerBy, steppedBy, voiceBy, lsdBy, answerAt, stepAt, voiceAt, lsdAt, Ready}
+use Rattle.recording.specs.Walk.{leftFrom, blockAt, readAt, blockRead, foundAgain, answerHere, isLost, answerBy, placeBy, readerBy, steppedBy, voiceBy, lsdBy, answerAt, stepAt, voiceAt, lsdAt, Ready}
 use Rattle.recording.specs.declared.Refusal.{Refusal}
 use Rattle.recording.specs.declared.Refusal.the-variants.{BadState, VoiceLength, DataLength, PastTheEnd}
 use Rattle.recording.specs.declared.Ruling.{Ruling}
 use Rattle.recording.specs.declared.Ruling.the-variants.{Refuse, Go}
-use Rattle.recording.specs.declared.Answer.the-variants.{Block}
+use Rattle.recording.specs.declared.Answer.{Answer}
+use Rattle.recording.specs.declared.Answer.the-variants.{Block, Place, End, Refused}
 use Rattle.recording.specs.declared.Stepped.{Stepped}
 
 -- ---- a block that the reader takes
@@ -111,6 +115,12 @@ goes all place s voice lsd = go (stateInRange s) (eqb voice 140) (eqb lsd 156) (
           inside = ltb-false _ _ ee;
         }
 
+pub rules-go : (all place : ℕ) (s : Reader) (voice lsd : ℕ) → Goes all place s voice lsd → rulingOf all place s voice lsd ≡ Go
+unfolding rulingOf
+rules-go all place s voice lsd g =
+    let k = g .ready in
+    rw (k .range, eq-eqb voice 140 (k .heard), eq-eqb lsd 156 (k .given), le-ltb 65536 all (g .small), le-ltb all place (g .inside))
+
 module _ (recording : List ℕ) (place : ℕ) (lost : Bool) (s : Reader) (voice lsd : List ℕ) where
   -- what the contract of a step says
   abbrev pub Left : Stepped → List ℕ → List ℕ → Type 0
@@ -125,6 +135,35 @@ module _ (recording : List ℕ) (place : ℕ) (lost : Bool) (s : Reader) (voice 
   unfolding stepAt voiceAt lsdAt answerAt
   by-ruling q r v d e a b f = (rw (e, a), rw (e, b), rw (e, f))
 
+  -- where no row refuses, it is what the walk finds there
+  pub step-here : Goes (length recording) place s (length voice) (length lsd)
+      → stepAt recording place lost s voice lsd ≡ steppedBy (answerHere recording place lost s) recording place lost s
+  unfolding stepAt answerAt
+  step-here g = rw (rules-go (length recording) place s (length voice) (length lsd) g)
+
   -- any two outcomes that it allows are equal
   pub step-settled : (r q : Stepped) (v w d e : List ℕ) → Left r v d → Left q w e → (r ≡ q) × (v ≡ w) × (d ≡ e)
   step-settled r q v w d e x y = (settled (x .0) (y .0), settled (x .1) (y .1), settled (x .2) (y .2))
+
+-- ---- a step leaves the reader's state in range, and the walk in the recording
+module _ (recording : List ℕ) (place : ℕ) (s : Reader) where
+  pub reader-in-range : (a : Answer) → stateInRange s ≡ true → stateInRange (readerBy a recording place s) ≡ true
+  reader-in-range (Block report) r = step-in-range s (blockAt recording place) r
+  reader-in-range (Place p) r = r
+  reader-in-range (End left) r = r
+  reader-in-range (Refused why) r = r
+
+  -- after the search: at the place found, or where it was
+  again-inside : (f : Found) → searchOf recording place ≡ f → place ≤ length recording
+      → placeBy (foundAgain f (leftFrom recording place)) place ≤ length recording
+  again-inside (Found.Place p) e h = let f = found-fits recording place p e in omega (arith, f .2)
+  again-inside (Found.Refused why) e h = h
+
+  pub place-inside : (lost : Bool) → place ≤ length recording → placeBy (answerHere recording place lost s) place ≤ length recording
+  place-inside true h = again-inside (searchOf recording place) refl h
+  place-inside false h = go (ltb (leftFrom recording place) 160) refl
+    where
+      go : (b : Bool) → ltb (leftFrom recording place) 160 ≡ b
+          → placeBy (cond b (End (leftFrom recording place)) (blockRead s recording place)) place ≤ length recording
+      go true e = h
+      go false e = let l = ltb-false (leftFrom recording place) 160 e in omega arith

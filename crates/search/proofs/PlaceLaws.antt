@@ -1,15 +1,15 @@
 -- Laws of the search: how it goes on by one place, and that its answer is the smallest place of document 01, or that there is none.
 use mathlib.Core.Path.{_≡_, refl, sym, ap, subst, _∙_}
-use mathlib.Core.Bool.{Bool, true, false, cond, and-false, false≢true}
+use mathlib.Core.Bool.{Bool, true, false, cond, _||_, and-false, false≢true}
 use mathlib.Core.Logic.{⊎-elim}
 use mathlib.Core.List.{List}
 use Prim.Native.Nat.{ℕ, zero, suc, _+_, _-_, _≤_, _<_}
 use native.Mathlib.Nat.{eq-or-lt-of-le}
 use native.Mathlib.Omega.{arith}
-use lib.Dec.{leb}
+use lib.Dec.{leb, ltb}
 use lib.ListN.{length, take, drop, length-drop}
 use lib.Seq.{take-all}
-use borrow.Author.Tests.{leb-true, leb-false, lt-leb, eqb-true}
+use borrow.Author.Tests.{leb-true, leb-false, lt-leb, ltb-false, eqb-true}
 use Rattle.bits.specs.Bits.{number}
 use Rattle.bits.proofs.BitLaws.{number-inj}
 use Rattle.frame.specs.Service.{evenAlignment}
@@ -113,3 +113,13 @@ found-smallest recording start p e = subst (Says start recording) e (search-says
 pub none-fits : (recording : List ℕ) (start : ℕ) → searchOf recording start ≡ Refused NoPlace
     → (q : ℕ) → start ≤ q → aligned (drop q recording) ≡ false
 none-fits recording start e = subst (Says start recording) e (search-says recording start)
+
+-- where a place was found, the recording is not too long
+pub found-small : (recording : List ℕ) (start p : ℕ) → searchOf recording start ≡ Place p → length recording ≤ 65536
+unfolding searchOf badLength
+found-small recording start p = go (ltb 65536 (length recording)) (ltb (length recording - start) 168) refl
+  where
+    go : (b d : Bool) → ltb 65536 (length recording) ≡ b
+        → cond (b || d) (Refused RecordingLength) (firstOf (length recording - start) start recording) ≡ Place p → length recording ≤ 65536
+    go true d e h = let z : _≡_ {A = ℕ} 0 1 = cc in absurd (omega arith)
+    go false d e h = ltb-false 65536 (length recording) e

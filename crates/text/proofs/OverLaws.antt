@@ -76,6 +76,10 @@ overAt-place (suc at) xs (y ∷ ys) =
 pub written-length : {at r : ℕ} {xs a b : List ℕ} → Written at xs a r b → length b ≡ length a
 written-length {at} {xs = xs} {a} h = ap length (h .octets) ∙ overAt-length at xs a
 
+-- an answered place is at most one past the end
+pub written-bound : {at r : ℕ} {xs a b : List ℕ} → Written at xs a r b → r ≤ length b + 1
+written-bound h = omega (arith, h .place, written-length h)
+
 -- no piece: a text begins so, from place 0 with the answer 0
 pub written-none : (at r : ℕ) (buffer : List ℕ) → r ≡ placeIn buffer at → Written at [] buffer r buffer
 written-none at r buffer h = record { place = rw add-zero h; octets = sym (overAt-nil at buffer) }

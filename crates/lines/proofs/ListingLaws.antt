@@ -1,0 +1,118 @@
+-- Laws of the listing: one step more of a walk, and that the last line says the octets left.
+use mathlib.Core.Path.{_≡_, refl, sym, ap, subst, _∙_}
+use mathlib.Core.Bool.{Bool, true, false, cond}
+use mathlib.Core.List.{List, [], _++_, append-nil, append-assoc}
+use Prim.Native.Nat.{ℕ, zero, suc, _+_, _*_, _-_, _≤_, _<_}
+use native.Mathlib.Omega.{arith}
+use lib.Dec.{ltb}
+use lib.ListN.{length}
+use borrow.Author.Tests.{ltb-false}
+use Rattle.bits.specs.Bits.{digit}
+use Rattle.text.specs.Over.{Written}
+use Rattle.text.specs.Words.{textOf}
+use Rattle.text.proofs.OverLaws.{written-none, written-then}
+use Rattle.reader.specs.State.{stateInRange}
+use Rattle.reader.specs.declared.Reader.{Reader}
+use Rattle.reader.specs.declared.Report.{Report}
+use Rattle.reader.proofs.RangeLaws.{fresh-in-range}
+use Rattle.search.specs.Finding.{searchOf}
+use Rattle.search.specs.declared.Found.{Found}
+use Rattle.search.proofs.PlaceLaws.{found-fits}
+use Rattle.recording.specs.Walk.{leftFrom, readAt, blockRead, foundAgain, answerHere, isLost, placeBy, lostBy, readerBy, steppedBy}
+use Rattle.recording.specs.declared.Answer.{Answer}
+use Rattle.recording.specs.declared.Answer.the-variants.{Block, Place, End, Refused}
+use Rattle.recording.specs.declared.Stepped.{Stepped}
+use Rattle.recording.proofs.StepLaws.{reader-in-range, place-inside}
+use Rattle.lines.specs.Listing.{numberLine, lineOf, isLast, countAfter, linesFrom, begun}
+
+-- ---- one step more: what was written, its line, and the lines to come
+module _ (recording : List ℕ) (place : ℕ) (lost : Bool) (s : Reader) (count n : ℕ) (done total : List ℕ) (a : Answer)
+    (is : a ≡ answerHere recording place lost s) (all : done ++ linesFrom (suc n) recording place lost s count ≡ total) where
+  after-line : done ++ (lineOf a count
+      ++ cond (isLast a) [] (linesFrom n recording (placeBy a place) (lostBy a lost) (readerBy a recording place s) (countAfter a count)))
+      ≡ total
+  unfolding linesFrom
+  after-line = rw is all
+
+  pub last-line : isLast a ≡ true → done ++ lineOf a count ≡ total
+  last-line e = ap (λ (l : List ℕ). done ++ l) (sym (append-nil (lineOf a count))) ∙ rw e at after-line
+
+  pub more-lines : isLast a ≡ false
+      → (done ++ lineOf a count) ++ linesFrom n recording (placeBy a place) (lostBy a lost) (readerBy a recording place s) (countAfter a count)
+      ≡ total
+  more-lines e = append-assoc done (lineOf a count) _ ∙ rw e at after-line
+
+pub count-low : (a : Answer) (n : ℕ) → countAfter a n ≤ n + 1
+count-low (Block report) n = omega arith
+count-low (Place p) n = omega arith
+count-low (End left) n = omega arith
+count-low (Refused why) n = omega arith
+
+-- ---- a listing under way: so many turns made, and what they wrote
+pub record Going (recording : List ℕ) (at start : ℕ) (was text : List ℕ) (end place : ℕ) (lost : Bool) (s : Reader) (count turn : ℕ) : Type 0 where
+  pub range : stateInRange s ≡ true
+  pub inside : place ≤ length recording
+  pub low : count ≤ turn
+  pub turns : turn ≤ length recording
+  pub done : List ℕ
+  pub written : Written at done was end text
+  pub all : done ++ linesFrom (length recording - turn) recording place lost s count ≡ linesFrom (length recording) recording start false begun 0
+
+pub begins : (recording : List ℕ) (at start : ℕ) (text : List ℕ) (s : Reader) → start ≤ length recording → at ≤ length text + 1 → s ≡ begun
+    → Going recording at start text text at start false s 0 0
+begins recording at start text s h k e =
+    let whole : length recording - 0 ≡ length recording = omega arith in
+    record {
+      range = ap stateInRange e ∙ fresh-in-range;
+      inside = h;
+      low = omega arith;
+      turns = omega arith;
+      done = [];
+      written = written-none at at text (omega arith);
+      all = ap (λ (n : ℕ). linesFrom n recording start false s 0) whole ∙ ap (λ (r : Reader). linesFrom (length recording) recording start false r 0) e;
+    }
+
+module _ (recording : List ℕ) (at start : ℕ) (was text : List ℕ) (end place : ℕ) (lost : Bool) (s : Reader) (count turn : ℕ)
+    (g : Going recording at start was text end place lost s count turn) where
+  -- all turns are made
+  pub over : length recording ≤ turn → Written at (linesFrom (length recording) recording start false begun 0) was end text
+  unfolding linesFrom
+  over h =
+      let none : length recording - turn ≡ 0 = omega arith in
+      let e = ap (λ (n : ℕ). g .done ++ linesFrom n recording place lost s count) none in
+      subst (λ (l : List ℕ). Written at l was end text) (sym (append-nil (g .done)) ∙ sym e ∙ g .all) (g .written)
+
+  module _ (h : turn < length recording) where
+    here : g .done ++ linesFrom (suc (length recording - (turn + 1))) recording place lost s count ≡ linesFrom (length recording) recording start false begun 0
+    here =
+        let one : suc (length recording - (turn + 1)) ≡ length recording - turn = omega arith in
+        ap (λ (n : ℕ). g .done ++ linesFrom n recording place lost s count) one ∙ g .all
+
+    module _ (p : Stepped) (e : p ≡ steppedBy (answerHere recording place lost s) recording place lost s) (end₁ : ℕ) (text₁ : List ℕ)
+        (w : Written end (lineOf (p .answer) count) text end₁ text₁) where
+      is : p .answer ≡ answerHere recording place lost s
+      is = ap (λ (q : Stepped). q .answer) e
+
+      -- the walk ends with this line
+      pub ends : isLast (p .answer) ≡ true → Written at (linesFrom (length recording) recording start false begun 0) was end₁ text₁
+      ends l =
+          subst (λ (t : List ℕ). Written at t was end₁ text₁)
+          (last-line recording place lost s count (length recording - (turn + 1)) (g .done) _ (p .answer) is here l)
+          (written-then (g .written) w)
+
+      -- or goes on
+      pub goes-on : isLast (p .answer) ≡ false
+          → Going recording at start was text₁ end₁ (p .place) (p .lost) (p .reader) (countAfter (p .answer) count) (turn + 1)
+      goes-on l =
+          let a = p .answer in
+          let moved : p ≡ steppedBy a recording place lost s = e ∙ ap (λ (b : Answer). steppedBy b recording place lost s) (sym is) in
+          let more = more-lines recording place lost s count (length recording - (turn + 1)) (g .done) _ a is here l in
+          record {
+            range = ap (λ (q : Stepped). stateInRange (q .reader)) moved ∙ reader-in-range recording place s a (g .range);
+            inside = subst (λ (q : Stepped). q .place ≤ length recording) (sym e) (place-inside recording place s lost (g .inside));
+            low = omega (arith, count-low a count, g .low);
+            turns = omega arith;
+            done = g .done ++ lineOf a count;
+            written = written-then (g .written) w;
+            all = ap (λ (q : Stepped). (g .done ++ lineOf a count) ++ linesFrom (length recording - (turn + 1)) recording (q .place) (q .lost) (q .reader) (countAfter a count)) moved ∙ more;
+          }
