@@ -9,11 +9,9 @@ use lib.ListN.{length}
 use borrow.Author.Tests.{ltb-false}
 use Rattle.bits.specs.Bits.{digit}
 use Rattle.text.specs.Over.{Written}
-use Rattle.text.specs.Words.{textOf}
 use Rattle.text.proofs.OverLaws.{written-none, written-then}
 use Rattle.reader.specs.State.{stateInRange}
 use Rattle.reader.specs.declared.Reader.{Reader}
-use Rattle.reader.specs.declared.Report.{Report}
 use Rattle.reader.proofs.RangeLaws.{fresh-in-range}
 use Rattle.search.specs.Finding.{searchOf}
 use Rattle.search.specs.declared.Found.{Found}
@@ -23,7 +21,7 @@ use Rattle.recording.specs.declared.Answer.{Answer}
 use Rattle.recording.specs.declared.Answer.the-variants.{Block, Place, End, Refused}
 use Rattle.recording.specs.declared.Stepped.{Stepped}
 use Rattle.recording.proofs.StepLaws.{reader-in-range, place-inside}
-use Rattle.lines.specs.Listing.{numberLine, lineOf, isLast, countAfter, linesFrom, begun}
+use Rattle.lines.specs.Listing.{numberLine, blockLine, lineOf, isLast, countAfter, linesFrom, begun, listingOf}
 
 -- ---- one step more: what was written, its line, and the lines to come
 module _ (recording : List ℕ) (place : ℕ) (lost : Bool) (s : Reader) (count n : ℕ) (done total : List ℕ) (a : Answer)
@@ -116,3 +114,57 @@ module _ (recording : List ℕ) (at start : ℕ) (was text : List ℕ) (end plac
             written = written-then (g .written) w;
             all = ap (λ (q : Stepped). (g .done ++ lineOf a count) ++ linesFrom (length recording - (turn + 1)) recording (q .place) (q .lost) (q .reader) (countAfter a count)) moved ∙ more;
           }
+
+-- ---- a recording has more octets than a walk over it has steps, so that a listing is whole: its last line is the octets left
+abbrev pub Ends : List ℕ → Type 0
+Ends text = (done : List ℕ) × (left : ℕ) × (text ≡ done ++ numberLine "left " left)
+
+ends-after : (line text : List ℕ) → Ends text → Ends (line ++ text)
+ends-after line text (done, left, e) =
+    (line ++ done, left, ap (λ (l : List ℕ). line ++ l) e ∙ sym (append-assoc line done (numberLine "left " left)))
+
+left-ends : (left : ℕ) → Ends (numberLine "left " left ++ [])
+left-ends left = ([], left, append-nil (numberLine "left " left))
+
+digit-low : (b : Bool) → digit b ≤ 1
+digit-low true = omega arith
+digit-low false = omega arith
+
+-- n steps are enough, wherever the walk stands: each block is 160 octets on, and each place found follows a lost block
+abbrev Enough : List ℕ → ℕ → Type 0
+Enough recording n =
+    (place : ℕ) (lost : Bool) (s : Reader) (count : ℕ) → place ≤ length recording
+    → length recording + 80 * digit lost + 80 ≤ place + 80 * n → Ends (linesFrom n recording place lost s count)
+
+module _ (recording : List ℕ) (n : ℕ) (shorter : Enough recording n) (place : ℕ) (s : Reader) (count : ℕ) (h : place ≤ length recording) where
+  abbrev Rest : Bool → Answer → Type 0
+  Rest lost a =
+      Ends (lineOf a count ++ cond (isLast a) [] (linesFrom n recording (placeBy a place) (lostBy a lost) (readerBy a recording place s) (countAfter a count)))
+
+  found-ends : length recording + 80 ≤ place + 80 * n → (f : Found) → searchOf recording place ≡ f → Rest true (foundAgain f (leftFrom recording place))
+  found-ends k (Found.Place p) e =
+      let f = found-fits recording place p e in
+      ends-after (numberLine "found " p) _ (shorter p false s count (omega (arith, f .2)) (omega (arith, f .1)))
+  found-ends k (Found.Refused why) e = left-ends (leftFrom recording place)
+
+  block-ends : length recording ≤ place + 80 * n → (b : Bool) → ltb (leftFrom recording place) 160 ≡ b
+      → Rest false (cond b (End (leftFrom recording place)) (blockRead s recording place))
+  block-ends k true e = left-ends (leftFrom recording place)
+  block-ends k false e =
+      let l = ltb-false (leftFrom recording place) 160 e in
+      let p = readAt s recording place in
+      ends-after (blockLine count (p .report)) _ (shorter (place + 160) (isLost (p .report)) (p .state) (count + 1) (omega arith) (omega (arith, digit-low (isLost (p .report)))))
+
+enough : (recording : List ℕ) (n : ℕ) → Enough recording n
+unfolding linesFrom
+enough recording zero place lost s count h k = absurd (omega arith)
+enough recording (suc n) place true s count h k =
+    found-ends recording n (enough recording n) place s count h (omega arith) (searchOf recording place) refl
+enough recording (suc n) place false s count h k =
+    block-ends recording n (enough recording n) place s count h (omega arith) (ltb (leftFrom recording place) 160) refl
+
+pub listing-ends : (recording : List ℕ) (p : ℕ) → searchOf recording 0 ≡ Found.Place p → Ends (listingOf recording)
+unfolding listingOf
+listing-ends recording p e =
+    let f = found-fits recording 0 p e in
+    rw e (ends-after (numberLine "found " p) _ (enough recording (length recording) p false begun 0 (omega (arith, f .2)) (omega (arith, f .2))))

@@ -3,7 +3,6 @@ use borrow.Author.Needs.{needs}
 use native.Mathlib.Omega.{arith}
 use mathlib.Core.Path.{sym, _∙_}
 use Prim.Native.Nat.{_-_}
-use denote.Ref.{now}
 use lib.ListN.{length}
 use Rattle.text.proofs.OverLaws.{written-length}
 use Rattle.lines.proofs.ListingLaws.{Going, begins, over, ends, goes-on}
