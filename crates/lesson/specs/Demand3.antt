@@ -1,0 +1,62 @@
+-- Demand 3: what is silent stays silent, and mute's own "audio off" goes out in time, as a command.
+use mathlib.Core.Path.{_≡_}
+use mathlib.Core.Bool.{Bool, true, false, not, _||_}
+use mathlib.Core.List.{List, [], _∷_}
+use mathlib.Core.Logic.{_⊎_}
+use Prim.Native.Nat.{ℕ, zero, suc}
+use lib.ListN.{length}
+use Rattle.modes.specs.Codes.{written, audioAttribute, audioOff}
+use Rattle.sender.specs.State.{itemDue, sounding}
+use Rattle.sender.specs.Rules.{ruleOf}
+use Rattle.sender.specs.Step.{blockFor}
+use Rattle.sender.specs.declared.Sender.{Sender}
+use Rattle.sender.specs.declared.Call.{Call}
+use Rattle.sender.specs.declared.Rule.the-variants.{MuteOff}
+use Rattle.sender.specs.declared.Answer.the-variants.{Held}
+use Rattle.lesson.specs.Session.{Turn, Left, turned, after, Allowed, Entry, log}
+
+-- a block is silent when mute is set in its call or no audio is in force as that call finds it
+abbrev pub silent : Sender → Call → Bool
+silent s c = c .mute || not (sounding s)
+
+-- two calls that differ only in microphone contents (never length), and only where the block is silent
+pub record AlikeTurn (s : Sender) (x y : Turn) : Type 0 where
+  pub call : x .call ≡ y .call
+  pub lsd : x .lsd ≡ y .lsd
+  pub line : x .line ≡ y .line
+  pub lengths : length (x .voice) ≡ length (y .voice)
+  pub heard : silent s (x .call) ≡ false → x .voice ≡ y .voice
+
+abbrev pub Alike : Sender → List Turn → List Turn → Type 0
+Alike s [] [] = Unit {0}
+Alike s [] (y ∷ ys) = ⊥
+Alike s (x ∷ xs) [] = ⊥
+Alike s (x ∷ xs) (y ∷ ys) = AlikeTurn s x y × Alike (after s x) xs ys
+
+-- two such sessions from one state: every octet sent, answer, refusal and state is the same
+abbrev pub Silence : Type 0
+Silence = (s : Sender) (xs ys : List Turn) (ls ms : List Left) → Allowed s xs ls → Allowed s ys ms → Alike s xs ys → ls ≡ ms
+
+-- mute stays set
+abbrev pub MuteStaysSet : List Turn → Type 0
+MuteStaysSet [] = Unit {0}
+MuteStaysSet (x ∷ xs) = (x .call .mute ≡ true) × MuteStaysSet xs
+
+-- mute's own "audio off" has gone out as a command, never as an item: none was due, it went by mute's rule, and the block that was
+-- written is the one that demand 2 lays down for the word "audio off"
+pub record MuteGone (e : Entry) : Type 0 where
+  pub command : itemDue (e .found) ≡ false
+  pub own : ruleOf (e .found) (e .turn .call .mute) ≡ MuteOff
+  pub held : (turned (e .found) (e .turn)) .outcome .answer ≡ Held
+  pub octets : (turned (e .found) (e .turn)) .line
+      ≡ blockFor (e .found) (e .turn .call) (written audioAttribute audioOff) (e .turn .voice) (e .turn .lsd)
+
+-- one of the first n entries is so, if there are that many
+abbrev pub By : ℕ → (Entry → Type 0) → List Entry → Type 0
+By zero P es = ⊥
+By (suc n) P [] = Unit {0}
+By (suc n) P (e ∷ es) = P e ⊎ By n P es
+
+-- if audio is in force when mute is first set and mute stays set, it has by the second accepted call
+abbrev pub MuteBound : Type 0
+MuteBound = (s : Sender) (xs : List Turn) → sounding s ≡ true → MuteStaysSet xs → By 2 MuteGone (log s xs)
