@@ -10,7 +10,7 @@ use native.Mathlib.Omega.{arith}
 use lib.Dec.{leb, eqb}
 use lib.ListN.{length, take, drop, length-take, length-drop}
 use lib.Seq.{take-at, drop-at}
-use lib.Bits.{bitXor, xor-lt}
+use lib.Bits.{bitXor, xor-lt, xor-zero-r}
 use borrow.Author.Tests.{leb-true, eqb-true, eqb-false, not-true, le-leb, lt-leb}
 use Rattle.bits.specs.Bits.{odd, lowBits, octetBits, digit, number, zeros, xors}
 use Rattle.bits.specs.Remainder.{scaled, fed, continued, remainder}
@@ -289,6 +289,11 @@ near-sent c e =
 -- up to two wrong bits are mended
 pub two-wrong : (c e : ℕ) → c < 256 → weight (lowBits 16 e) ≤ 2 → readingOf (bitXor (wordOf c) e) ≡ Code c
 two-wrong c e h few = reads (bitXor (wordOf c) e) c h (near-sent c e ∙ le-leb (weight (lowBits 16 e)) 2 few)
+
+-- a word that came unharmed reads as its code
+pub word-back : (c : ℕ) → c < 256 → readingOf (wordOf c) ≡ Code c
+unfolding lowBits odd weight
+word-back c h = ap readingOf (sym (xor-zero-r (wordOf c))) ∙ two-wrong c 0 h (omega arith)
 
 -- three wrong bits, or more, never read as the sent code
 pub three-wrong : (c e : ℕ) → 2 < weight (lowBits 16 e) → readingOf (bitXor (wordOf c) e) ≢ Code c

@@ -26,7 +26,7 @@ use Rattle.frame.proofs.LayoutLaws.{rows-are, count-voice}
 
 -- ---- service bits
 -- the word's sixteen bits in line order, as a number and as its two halves
-word-bits : (code : ℕ) → lowBits 16 (wordOf code) ≡ wordBits code
+pub word-bits : (code : ℕ) → lowBits 16 (wordOf code) ≡ wordBits code
 unfolding wordOf
 word-bits code = lowBits-back 16 (wordBits code) (length-wordBits code)
 

@@ -5,3 +5,4 @@ pub mod LayoutLaws
 pub mod OctetLaws
 pub mod StreamLaws
 pub mod WrittenLaws
+pub mod HeaderLaws
