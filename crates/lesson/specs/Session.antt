@@ -63,5 +63,5 @@ log s [] = []
 log s (x ∷ xs) = noted (accepted ((turned s x) .outcome .answer)) (record { found = s; turn = x }) (log (after s x) xs)
 
 -- the block that an accepted call wrote
-abbrev pub written : Entry → List ℕ
-written e = (turned (e .found) (e .turn)) .line
+abbrev pub blockSent : Entry → List ℕ
+blockSent e = (turned (e .found) (e .turn)) .line

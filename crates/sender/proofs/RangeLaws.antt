@@ -57,11 +57,11 @@ unfolding stateInRange
 keeps s k = rw (in-range (mode (s .chosen) (s .mode .lsd)) (k .ranges), k .force, k .block, k .rest)
 
 -- ---- what an offered command leaves
-or-left : (a b : Bool) → (a || b) ≡ false → a ≡ false
+pub or-left : (a b : Bool) → (a || b) ≡ false → a ≡ false
 or-left true b h = h
 or-left false b h = refl
 
-or-right : (a b : Bool) → (a || b) ≡ false → b ≡ false
+pub or-right : (a b : Bool) → (a || b) ≡ false → b ≡ false
 or-right true b h = cc
 or-right false b h = h
 

@@ -21,7 +21,7 @@ lsd-off-apart : (v : ℕ) → v < 32 → overlaps (mode v lsdOff) ≡ false
 unfolding audioPlaces audioTable lsdPlaces lsdTable beside overlaps clash some holds heldBy
 lsd-off-apart v small = not-true _ (below 32 (λ (k : ℕ). not (overlaps (mode k lsdOff))) refl v small)
 
-audio-off-apart : (v : ℕ) → v < 15 → overlaps (mode audioOff v) ≡ false
+pub audio-off-apart : (v : ℕ) → v < 15 → overlaps (mode audioOff v) ≡ false
 unfolding audioPlaces audioTable lsdPlaces lsdTable beside overlaps clash some holds heldBy
 audio-off-apart v small = not-true _ (below 15 (λ (k : ℕ). not (overlaps (mode audioOff k))) refl v small)
 

@@ -1,6 +1,6 @@
 -- The round trip of a block: what is sorted out of a block is what the block was filled from.
 use mathlib.Core.Path.{_≡_, refl, ap, sym, _∙_}
-use mathlib.Core.Bool.{Bool, true, false}
+use mathlib.Core.Bool.{Bool, true, false, cond}
 use mathlib.Core.List.{List, [], _∷_, _++_}
 use Prim.Native.Nat.{ℕ, zero, suc, _+_, _-_, _*_, _≤_, _<_}
 use native.Mathlib.Omega.{arith}
@@ -13,7 +13,7 @@ use Rattle.modes.specs.declared.Mode.{Mode}
 use Rattle.modes.specs.declared.Owner.{Owner}
 use Rattle.modes.specs.declared.Owner.the-variants.{Voice, Lsd}
 use Rattle.frame.specs.Streams.{Streams, count, fill, sort, nexts}
-use Rattle.frame.specs.Block.{places, sources, blockOf}
+use Rattle.frame.specs.Block.{places, heard, sources, blockOf}
 use Rattle.frame.specs.Layout.{layoutOf, rowsBy}
 use Rattle.frame.specs.declared.Header.{Header}
 use Rattle.frame.proofs.StreamLaws.{sorted, count-append, length-fill, nexts-take}
@@ -91,6 +91,19 @@ muted-back m h vs ds =
     handed Voice 140 m h true vs ds
     ∙ ap (λ (j : ℕ). octets 140 (nexts j [])) (voice-places m)
     ∙ ap (octets 140) (nexts-none (160 * (layoutOf m) .width))
+
+-- ---- voice bit by bit: the sender's, or ones where it is muted
+pub voice-bits-back : (m : Mode) (h : Header) (mute : Bool) (vs ds : List ℕ) → length vs ≡ 140
+    → (let n = count Voice (places m ++ places m) in
+    sortedOf m Voice 140 (blockOf m h mute vs ds) ≡ octets 140 (cond mute (replicate n true) (take n (bitsOf vs))))
+voice-bits-back m h mute vs ds hl = handed Voice 140 m h mute vs ds ∙ ap (octets 140) (by-mute mute)
+  where
+    n : ℕ
+    n = count Voice (places m ++ places m)
+
+    by-mute : (b : Bool) → nexts n (heard b (bitsOf vs)) ≡ cond b (replicate n true) (take n (bitsOf vs))
+    by-mute true = nexts-none n
+    by-mute false = nexts-take n (bitsOf vs) (rw length-bitsOf (omega (arith, voice-places m, apart-of m .within)))
 
 -- ---- data comes back bit by bit: it can end within an octet
 pub lsd-back : (m : Mode) (h : Header) (mute : Bool) (vs ds : List ℕ) → length ds ≡ 156

@@ -1,0 +1,116 @@
+-- Demand 3 supposes nothing that cannot be: sessions that meet what each of its parts asks, and that differ where they may.
+use mathlib.Core.Path.{_≡_, refl, sym, ap}
+use mathlib.Core.Bool.{Bool, true, false, false≢true}
+use mathlib.Core.List.{List, [], _∷_}
+use mathlib.Core.Logic.{_⊎_, inl, inr}
+use Prim.Native.Nat.{ℕ}
+use native.Mathlib.Omega.{arith}
+use lib.ListN.{getD, replicate}
+use Rattle.bits.specs.Crc.{blockCrcOf}
+use Rattle.modes.specs.Codes.{audioOff}
+use Rattle.modes.specs.Table.{audioTable, lsdTable, beside, audioPlaces, lsdPlaces}
+use Rattle.modes.specs.Owners.{holds, heldBy, some, clash, overlaps}
+use Rattle.modes.specs.Numbers.{following}
+use Rattle.modes.specs.Commands.{mode, inRange}
+use Rattle.sender.specs.State.{sounding, stateInRange, freshWith}
+use Rattle.sender.specs.Rules.{ruleOf}
+use Rattle.sender.specs.Plans.{planBy}
+use Rattle.sender.specs.Refusals.{verdictOf}
+use Rattle.sender.specs.Step.{blockFor, outcomeOf}
+use Rattle.sender.specs.declared.Sender.{Sender}
+use Rattle.sender.specs.declared.Answer.the-variants.{Sent, Held}
+use Rattle.sender.proofs.RangeLaws.{stays-in-range}
+use Rattle.lesson.specs.Session.{Turn, turned, after, run, log}
+use Rattle.lesson.specs.Demand3.{silent, AlikeTurn, Alike, MuteStaysSet, MuteGone, By}
+use Rattle.lesson.proofs.SilenceLaws.{run-allowed, silence}
+
+-- audio [24] in force
+abbrev talking : ℕ → Sender
+talking due = record { chosen = 24; mode = mode 24 0; block = record { 0 = 1 }; due = due; remainder = 0 }
+
+-- a call with buffers of the right lengths, the microphone at v; (001)[0] is offered, which may go plain and as an item
+abbrev turn : Bool → ℕ → Turn
+turn mute v =
+    record {
+      call = record { mute = mute; code = 32; a = false; e = false; t = false };
+      voice = replicate 140 v;
+      lsd = replicate 156 0;
+      line = replicate 160 0;
+    }
+
+abbrev muted : ℕ → List Turn
+muted v = turn true v ∷ turn true v ∷ []
+
+-- ---- silence: the contract allows every session as it runs (`run-allowed`), and these are alike
+muted-example : (s : Sender) → AlikeTurn s (turn true 0) (turn true 1)
+muted-example s = record { call = refl; lsd = refl; line = refl; lengths = refl; heard = λ h. absurd (false≢true (sym h)) }
+
+off-example : AlikeTurn (freshWith audioOff) (turn false 0) (turn false 1)
+off-example = record { call = refl; lsd = refl; line = refl; lengths = refl; heard = λ h. absurd (false≢true (sym h)) }
+
+differ-example : (turn true 0) .voice ≡ (turn true 1) .voice → ⊥
+differ-example h = let z : _≡_ {A = ℕ} 0 1 = ap (λ (l : List ℕ). getD l 0 0) h in absurd (omega arith)
+
+alike-example : Alike (talking 0) (muted 0) (muted 1)
+alike-example = (muted-example (talking 0), (muted-example (after (talking 0) (turn true 0)), tt))
+
+silence-example : run (talking 0) (muted 0) ≡ run (talking 0) (muted 1)
+silence-example =
+    silence (talking 0) (muted 0) (muted 1) _ _ (run-allowed (talking 0) (muted 0)) (run-allowed (talking 0) (muted 1)) alike-example
+
+-- with mute clear the same block is not silent
+heard-example : silent (talking 0) ((turn false 0) .call) ≡ false
+heard-example = refl
+
+-- ---- mute's bound: audio is in force, mute stays set, and the call is accepted
+sounding-example : (sounding (talking 0) ≡ true) × MuteStaysSet (muted 0)
+sounding-example = (refl, (refl, (refl, tt)))
+
+range-example : (due : ℕ) → stateInRange (talking due) ≡ true
+unfolding stateInRange inRange audioPlaces audioTable lsdPlaces lsdTable beside overlaps clash some holds heldBy
+range-example due = refl
+
+held-example : (turned (talking 0) (turn true 0)) .outcome .answer ≡ Held
+unfolding turned outcomeOf verdictOf ruleOf planBy
+held-example = rw (range-example 0)
+
+-- where an item is due it goes first, and mute's own "off" in the second call
+item-sent : (turned (talking 1) (turn true 0)) .outcome .answer ≡ Sent
+unfolding turned outcomeOf verdictOf ruleOf planBy
+item-sent = rw (range-example 1)
+
+second : Sender
+second =
+    record {
+      chosen = 24;
+      mode = mode 24 0;
+      block = record { 0 = 2 };
+      due = 0;
+      remainder = blockCrcOf (blockFor (talking 1) ((turn true 0) .call) 32 (replicate 140 0) (replicate 156 0));
+    }
+
+second-found : after (talking 1) (turn true 0) ≡ second
+unfolding second turned outcomeOf verdictOf ruleOf planBy following
+second-found = rw (range-example 1, after)
+
+second-range : stateInRange second ≡ true
+unfolding turned
+second-range =
+    rw (← second-found)
+    (stays-in-range (talking 1) ((turn true 0) .call) (replicate 140 0) (replicate 156 0) (replicate 160 0) (range-example 1))
+
+second-held : (turned second (turn true 0)) .outcome .answer ≡ Held
+unfolding second turned outcomeOf verdictOf ruleOf planBy
+second-held = rw second-range
+
+second-example : log (talking 1) (muted 0)
+    ≡ record { found = talking 1; turn = turn true 0 } ∷ record { found = second; turn = turn true 0 } ∷ []
+second-example = rw (item-sent, second-found, second-held)
+
+-- so no smaller bound holds
+least-example : By 1 MuteGone (log (talking 1) (muted 0)) → ⊥
+least-example b = go (rw second-example at b)
+  where
+    go : MuteGone (record { found = talking 1; turn = turn true 0 }) ⊎ ⊥ → ⊥
+    go (inl g) = false≢true (sym (g .command))
+    go (inr n) = n

@@ -1,0 +1,189 @@
+-- Demand 1, call by call.
+use mathlib.Core.Path.{_≡_, refl, _∙_}
+use mathlib.Core.Bool.{Bool, true, false, not, cond, _&&_, _||_}
+use mathlib.Core.List.{List, _∷_}
+use Prim.Native.Nat.{ℕ, zero, suc, _+_, _-_}
+use native.Mathlib.Omega.{arith}
+use lib.Dec.{eqb, ltb}
+use lib.ListN.{length, getD, drop, length-drop, drop-of-length-le}
+use lib.Seq.{drop-cons}
+use Rattle.sender.specs.State.{itemDue, sounding, choosing}
+use Rattle.sender.specs.State as sender
+use Rattle.sender.specs.Rules.{ruleOf}
+use Rattle.sender.specs.Plans.{planBy}
+use Rattle.sender.specs.Refusals as sender-list
+use Rattle.sender.specs.Step as sending
+use Rattle.sender.specs.Presets.{isPreset, presetRead, presetWritten}
+use Rattle.sender.specs.declared.Sender.{Sender}
+use Rattle.sender.specs.declared.Call.{Call}
+use Rattle.sender.specs.declared.Rule.{Rule}
+use Rattle.sender.specs.declared.Rule.the-variants.{AsItem, MuteOff, Release, Offered}
+use Rattle.sender.specs.declared.Verdict as verdict
+use Rattle.reader.specs.State as reader
+use Rattle.reader.specs.Refusals as reader-list
+use Rattle.reader.specs.Step as reading
+use Rattle.reader.specs.declared.Reader.{Reader}
+use Rattle.reader.specs.declared.Ruling as ruling
+use Rattle.search.specs.Finding as finding
+use Rattle.search.specs.declared.Found.{Found}
+use Rattle.search.specs.declared.Refusal.the-variants.{RecordingLength}
+use Rattle.recording.specs.Refusals as walk-list
+use Rattle.recording.specs.Walk as walk
+use Rattle.recording.specs.declared.Refusal.the-variants.{BadState, VoiceLength, DataLength, PastTheEnd}
+use Rattle.recording.specs.declared.Ruling.{Ruling}
+use Rattle.recording.specs.declared.Ruling.the-variants.{Refuse, Go}
+use Rattle.recording.specs.declared.Answer.the-variants.{End}
+use Rattle.lesson.specs.Demand1.{smallest, plain, sendingRows, Sending, Reading, foundNumber, somewhere, Searching, Stepping, readNumber, ReadingPreset, writtenNumber, WritingPreset}
+
+-- ---- the sender's rule says which rows look at the offered code
+plain-is : (s : Sender) (c : Call) → sender-list.goesPlain (ruleOf s (c .mute)) ≡ plain s c
+unfolding ruleOf
+plain-is s c = go (itemDue s) (c .mute) (sounding s) (choosing s)
+  where
+    go : (i m f k : Bool) → sender-list.goesPlain (cond i AsItem (cond (m && f) MuteOff (cond (not m && not f && k) Release Offered)))
+        ≡ (not (not i && (m && f || not m && not f && k)) && not i)
+    go true m f k = refl
+    go false true true k = refl
+    go false true false k = refl
+    go false false true k = refl
+    go false false false true = refl
+    go false false false false = refl
+
+item-is : (s : Sender) (c : Call) → sender-list.goesAsItem (ruleOf s (c .mute)) ≡ itemDue s
+unfolding ruleOf
+item-is s c = go (itemDue s) (c .mute && sounding s) (not (c .mute) && not (sounding s) && choosing s)
+  where
+    go : (i m r : Bool) → sender-list.goesAsItem (cond i AsItem (cond m MuteOff (cond r Release Offered))) ≡ i
+    go true m r = refl
+    go false true r = refl
+    go false false true = refl
+    go false false false = refl
+
+sending-number : (s : Sender) (c : Call) (voice lsd line : List ℕ)
+    → sender-list.refusalNumber s c (length line) (length voice) (length lsd) ≡ smallest (sendingRows s c voice lsd line)
+unfolding sender-list.refusalNumber
+sending-number s c voice lsd line = rw (plain-is s c, item-is s c)
+
+-- a word that goes is no refusal
+not-refused : (rule : Rule) (s : Sender) (c : Call) (voice lsd : List ℕ)
+    → sender-list.numberIn ((sending.outcomeBy (verdict.the-variants.Goes rule) s c voice lsd) .answer) ≡ 0
+unfolding planBy
+not-refused AsItem s c voice lsd = refl
+not-refused MuteOff s c voice lsd = refl
+not-refused Release s c voice lsd = refl
+not-refused Offered s c voice lsd = refl
+
+pub sending-refuses : Sending
+unfolding sending.outcomeOf sending.lineOf
+sending-refuses s c voice lsd line r l t =
+    record {
+      ordered = refl;
+      exact = t .number ∙ sending-number s c voice lsd line;
+      kept = go (sending.judged s c voice lsd line) refl;
+    }
+  where
+    go : (q : verdict.Verdict) → sending.judged s c voice lsd line ≡ q → (sender-list.numberIn (r .answer) ≡ 0 → ⊥) → (r .state ≡ s) × (l ≡ line)
+    go (verdict.the-variants.Refuse why) e h = (rw (t .outcome, e), rw (t .octets, e))
+    go (verdict.the-variants.Goes rule) e h = absurd (h (rw (t .outcome, e) (not-refused rule s c voice lsd)))
+
+pub reading-refuses : Reading
+unfolding reading.outcomeOf reading.voiceOf reading.lsdOf reader-list.refusalNumber
+reading-refuses s line voice lsd r v d t =
+    record { ordered = refl; exact = t .number; kept = go (reading.ruled s line voice lsd) refl }
+  where
+    go : (q : ruling.Ruling) → reading.ruled s line voice lsd ≡ q → (reader-list.numberIn (r .answer) ≡ 0 → ⊥)
+        → (r .state ≡ s) × (v ≡ voice) × (d ≡ lsd)
+    go (ruling.the-variants.Refuse why) e h = (rw (t .outcome, e), rw (t .heard, e), rw (t .given, e))
+    go ruling.the-variants.Take e h = absurd (h (rw (t .outcome, e)))
+
+-- ---- the search goes through the places one by one, and so does the test for some place
+first-number : (n at : ℕ) (recording : List ℕ) → length recording - at ≡ n
+    → foundNumber (finding.firstOf n at recording) ≡ cond (not (somewhere (drop at recording))) 10 0
+unfolding finding.firstOf somewhere
+first-number zero at recording h = rw (drop-of-length-le recording {i = at} (omega arith))
+first-number (suc n) at recording h =
+    let one : suc at ≡ at + 1 = omega arith in
+    rw (rw one at (drop-cons recording at 0 (omega arith)))
+    (go (finding.aligned (getD recording at 0 ∷ drop (at + 1) recording)) (first-number n (at + 1) recording (omega arith)))
+  where
+    go : (b : Bool) → foundNumber (finding.firstOf n (at + 1) recording) ≡ cond (not (somewhere (drop (at + 1) recording))) 10 0
+        → foundNumber (cond b (Found.Place at) (finding.firstOf n (at + 1) recording)) ≡ cond (not (b || somewhere (drop (at + 1) recording))) 10 0
+    go true ih = refl
+    go false ih = ih
+
+pub searching-refuses : Searching
+unfolding finding.searchOf finding.badLength
+searching-refuses recording start r e =
+    record {
+      ordered = refl;
+      exact = rw (e, length-drop start recording) (go (ltb 65536 (length recording) || ltb (length recording - start) 168));
+      kept = λ h. tt;
+    }
+  where
+    go : (b : Bool)
+        → foundNumber (cond b (Found.Refused RecordingLength) (finding.firstOf (length recording - start) start recording))
+        ≡ cond b 9 (cond (not (somewhere (drop start recording))) 10 0)
+    go true = refl
+    go false = first-number (length recording - start) start recording refl
+
+-- ---- where no row of a step is given, its answer is no refusal
+module _ (recording : List ℕ) (place : ℕ) (lost : Bool) (s : Reader) where
+  here-number : walk-list.numberIn (walk.answerHere recording place lost s) ≡ 0
+  here-number = go lost (finding.searchOf recording place) (ltb (walk.leftFrom recording place) 160)
+    where
+      go : (l : Bool) (f : Found) (few : Bool)
+          → walk-list.numberIn (cond l (walk.foundAgain f (walk.leftFrom recording place)) (cond few (End (walk.leftFrom recording place)) (walk.blockRead s recording place))) ≡ 0
+      go true (Found.Place p) few = refl
+      go true (Found.Refused why) few = refl
+      go false f true = refl
+      go false f false = refl
+
+  step-number : (voice lsd : ℕ)
+      → walk-list.numberIn (walk.answerBy (walk-list.rulingOf (length recording) place s voice lsd) recording place lost s)
+      ≡ cond (not (reader.stateInRange s)) 1
+      (cond (not (eqb voice 140)) 3
+      (cond (not (eqb lsd 156)) 4
+      (cond (ltb 65536 (length recording) || ltb (length recording) place) 9 0)))
+  unfolding walk-list.rulingOf
+  step-number voice lsd =
+      go (reader.stateInRange s) (eqb voice 140) (eqb lsd 156) (ltb 65536 (length recording) || ltb (length recording) place)
+    where
+      go : (r v d p : Bool)
+          → walk-list.numberIn (walk.answerBy (cond (not r) (Refuse BadState) (cond (not v) (Refuse VoiceLength) (cond (not d) (Refuse DataLength) (cond p (Refuse PastTheEnd) Go)))) recording place lost s)
+          ≡ cond (not r) 1 (cond (not v) 3 (cond (not d) 4 (cond p 9 0)))
+      go false v d p = refl
+      go true false d p = refl
+      go true true false p = refl
+      go true true true true = refl
+      go true true true false = here-number
+
+pub stepping-refuses : Stepping
+unfolding walk.stepAt walk.voiceAt walk.lsdAt walk.answerAt
+stepping-refuses recording place lost s voice lsd r v d er ev ed =
+    record {
+      ordered = refl;
+      exact = rw er (step-number recording place lost s (length voice) (length lsd));
+      kept = go (walk-list.rulingOf (length recording) place s (length voice) (length lsd)) refl;
+    }
+  where
+    go : (q : Ruling) → walk-list.rulingOf (length recording) place s (length voice) (length lsd) ≡ q
+        → (walk-list.numberIn (r .answer) ≡ 0 → ⊥)
+        → (r .reader ≡ s) × (r .place ≡ place) × (r .lost ≡ lost) × (v ≡ voice) × (d ≡ lsd)
+    go (Refuse why) e h = (rw (er, e), rw (er, e), rw (er, e), rw (ev, e), rw (ed, e))
+    go Go e h = absurd (h (rw (er, e) (here-number recording place lost s)))
+
+pub reading-preset-refuses : ReadingPreset
+unfolding presetRead
+reading-preset-refuses bits r e = record { ordered = refl; exact = rw e (go (isPreset bits) refl); kept = λ h. tt }
+  where
+    go : (b : Bool) → isPreset bits ≡ b → readNumber ((presetRead bits) .answer) ≡ cond (not (isPreset bits)) 11 0
+    go true p = rw p
+    go false p = rw p
+
+pub writing-preset-refuses : WritingPreset
+unfolding presetWritten
+writing-preset-refuses s r e = record { ordered = refl; exact = rw e (go (sender.stateInRange s) refl); kept = λ h. tt }
+  where
+    go : (b : Bool) → sender.stateInRange s ≡ b → writtenNumber (presetWritten s) ≡ cond (not (sender.stateInRange s)) 1 0
+    go true p = rw p
+    go false p = rw p

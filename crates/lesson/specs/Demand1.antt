@@ -1,0 +1,151 @@
+-- Demand 1: every entry point takes any octets, lengths and saved state; it refuses by document 01's numbered list, only then, and a
+-- refusal leaves state and buffers untouched.
+use mathlib.Core.Path.{_≡_}
+use mathlib.Core.Bool.{Bool, true, false, not, cond, _&&_, _||_}
+use mathlib.Core.List.{List, [], _∷_}
+use Prim.Native.Nat.{ℕ}
+use lib.Dec.{eqb, ltb}
+use lib.ListN.{length, drop}
+use Rattle.modes.specs.Codes.{attribute}
+use Rattle.modes.specs.Carried.{senderCarries}
+use Rattle.sender.specs.State.{itemDue, sounding, choosing}
+use Rattle.sender.specs.State as sender
+use Rattle.sender.specs.Refusals as sender-list
+use Rattle.sender.specs.Step as sending
+use Rattle.sender.specs.Presets.{isPreset, presetRead, presetWritten}
+use Rattle.sender.specs.declared.Sender.{Sender}
+use Rattle.sender.specs.declared.Call.{Call}
+use Rattle.sender.specs.declared.Outcome as sent
+use Rattle.sender.specs.declared.PresetRead.{PresetRead}
+use Rattle.sender.specs.declared.PresetAnswer.{PresetAnswer}
+use Rattle.sender.specs.declared.PresetWritten.{PresetWritten}
+use Rattle.reader.specs.State as reader
+use Rattle.reader.specs.Refusals as reader-list
+use Rattle.reader.specs.Step as reading
+use Rattle.reader.specs.declared.Reader.{Reader}
+use Rattle.reader.specs.declared.Outcome as read
+use Rattle.search.specs.Finding as finding
+use Rattle.search.specs.declared.Found.{Found}
+use Rattle.recording.specs.Refusals as walk-list
+use Rattle.recording.specs.Walk.{stepAt, voiceAt, lsdAt}
+use Rattle.recording.specs.declared.Stepped.{Stepped}
+
+-- a row of the list: its number, and whether it is given
+pub record Row : Type 0 where
+  pub number : ℕ
+  pub given : Bool
+
+abbrev row : ℕ → Bool → Row
+row n b = record { number = n; given = b }
+
+-- smaller number first: the number of the first row that is given, 0 where none is
+abbrev pub smallest : List Row → ℕ
+smallest [] = 0
+smallest (r ∷ rs) = cond (r .given) (r .number) (smallest rs)
+
+-- the rows stand in the order of their numbers, each of which is over this one
+abbrev pub ascending : ℕ → List Row → Bool
+ascending n [] = true
+ascending n (r ∷ rs) = ltb n (r .number) && ascending (r .number) rs
+
+-- a call answers with a refusal's number, or with 0 where it does not refuse: by these rows, exactly when one is given, and a refusal
+-- leaves all untouched
+pub record Refuses (n : ℕ) (rows : List Row) (untouched : Type 0) : Type 0 where
+  pub ordered : ascending 0 rows ≡ true
+  pub exact : n ≡ smallest rows
+  pub kept : (n ≡ 0 → ⊥) → untouched
+
+-- ---- `sender::send`: rows 1 to 8
+-- the offered code is held: no item is due, and mute's "audio off" or the chosen command goes
+abbrev pub held : Sender → Call → Bool
+held s c = not (itemDue s) && (c .mute && sounding s || not (c .mute) && not (sounding s) && choosing s)
+
+-- rows 5 to 8 look only at an offered code that is not held; 5, 7 and 8 only where no item is due. Where one is, the code is never held
+abbrev pub plain : Sender → Call → Bool
+plain s c = not (held s c) && not (itemDue s)
+
+abbrev pub sendingRows : Sender → Call → List ℕ → List ℕ → List ℕ → List Row
+sendingRows s c voice lsd line =
+    row 1 (not (sender.stateInRange s))
+    ∷ row 2 (not (eqb (length line) 160))
+    ∷ row 3 (not (eqb (length voice) 140))
+    ∷ row 4 (not (eqb (length lsd) 156))
+    ∷ row 5 (plain s c && not (senderCarries (c .code)))
+    ∷ row 6 (itemDue s && eqb (attribute (c .code)) 0b111)
+    ∷ row 7 (plain s c && sender-list.isAudio (c .code) && c .mute)
+    ∷ row 8 (plain s c && sender-list.clashes s (c .code))
+    ∷ []
+
+abbrev pub Sending : Type 0
+Sending = (s : Sender) (c : Call) (voice lsd line : List ℕ) (r : sent.Outcome) (l : List ℕ)
+    → sending.Told s c voice lsd line r l
+    → Refuses (sender-list.numberIn (r .answer)) (sendingRows s c voice lsd line) ((r .state ≡ s) × (l ≡ line))
+
+-- ---- `reader::read`: rows 1 to 4
+abbrev pub readingRows : Reader → List ℕ → List ℕ → List ℕ → List Row
+readingRows s line voice lsd =
+    row 1 (not (reader.stateInRange s))
+    ∷ row 2 (not (eqb (length line) 160))
+    ∷ row 3 (not (eqb (length voice) 140))
+    ∷ row 4 (not (eqb (length lsd) 156))
+    ∷ []
+
+abbrev pub Reading : Type 0
+Reading = (s : Reader) (line voice lsd : List ℕ) (r : read.Outcome) (v d : List ℕ)
+    → reading.Told s line voice lsd r v d
+    → Refuses (reader-list.numberIn (r .answer)) (readingRows s line voice lsd) ((r .state ≡ s) × (v ≡ voice) × (d ≡ lsd))
+
+-- ---- `search::search`: rows 9 and 10; it is lent nothing that it could change
+abbrev pub foundNumber : Found → ℕ
+foundNumber (Found.Place p) = 0
+foundNumber (Found.Refused r) = finding.numberOf r
+
+-- alignment stands at the first octet of this part of a recording, or at a later one
+unfoldable pub somewhere : List ℕ → Bool
+somewhere [] = false
+somewhere (x ∷ xs) = finding.aligned (x ∷ xs) || somewhere xs
+
+abbrev pub searchingRows : List ℕ → ℕ → List Row
+searchingRows recording start =
+    let part = drop start recording in
+    row 9 (ltb 65536 (length recording) || ltb (length part) 168)
+    ∷ row 10 (not (somewhere part))
+    ∷ []
+
+abbrev pub Searching : Type 0
+Searching = (recording : List ℕ) (start : ℕ) (r : Found) → r ≡ finding.searchOf recording start
+    → Refuses (foundNumber r) (searchingRows recording start) (Unit {0})
+
+-- ---- `recording::step`: rows 1, 3, 4 and 9
+abbrev pub steppingRows : List ℕ → ℕ → Reader → List ℕ → List ℕ → List Row
+steppingRows recording place s voice lsd =
+    row 1 (not (reader.stateInRange s))
+    ∷ row 3 (not (eqb (length voice) 140))
+    ∷ row 4 (not (eqb (length lsd) 156))
+    ∷ row 9 (ltb 65536 (length recording) || ltb (length recording) place)
+    ∷ []
+
+abbrev pub Stepping : Type 0
+Stepping = (recording : List ℕ) (place : ℕ) (lost : Bool) (s : Reader) (voice lsd : List ℕ) (r : Stepped) (v d : List ℕ)
+    → r ≡ stepAt recording place lost s voice lsd
+    → v ≡ voiceAt recording place lost s voice lsd
+    → d ≡ lsdAt recording place lost s voice lsd
+    → Refuses (walk-list.numberIn (r .answer)) (steppingRows recording place s voice lsd)
+    ((r .reader ≡ s) × (r .place ≡ place) × (r .lost ≡ lost) × (v ≡ voice) × (d ≡ lsd))
+
+-- ---- `sender::read_preset`: row 11; `sender::write_preset`: row 1. Neither is lent anything or gives back a state that it took
+abbrev pub readNumber : PresetAnswer → ℕ
+readNumber PresetAnswer.Read = 0
+readNumber (PresetAnswer.Unread r) = sender-list.numberOf r
+
+abbrev pub ReadingPreset : Type 0
+ReadingPreset = (bits : ℕ) (r : PresetRead) → r ≡ presetRead bits
+    → Refuses (readNumber (r .answer)) (row 11 (not (isPreset bits)) ∷ []) (Unit {0})
+
+abbrev pub writtenNumber : PresetWritten → ℕ
+writtenNumber (PresetWritten.Bits b) = 0
+writtenNumber (PresetWritten.Unwritten r) = sender-list.numberOf r
+
+abbrev pub WritingPreset : Type 0
+WritingPreset = (s : Sender) (r : PresetWritten) → r ≡ presetWritten s
+    → Refuses (writtenNumber r) (row 1 (not (sender.stateInRange s)) ∷ []) (Unit {0})

@@ -1,0 +1,138 @@
+-- Demand 2: the octets sent are those that 01 lays down; a reader in step hands back every code, each data bit, each voice bit of an open
+-- block, and ones for a block muted before "audio off" takes hold.
+use mathlib.Core.Path.{_≡_}
+use mathlib.Core.Bool.{Bool, true, false, cond}
+use mathlib.Core.List.{List, [], _∷_, _++_}
+use Prim.Native.Nat.{ℕ, _-_, _%_, _^_, _<_}
+use lib.ListN.{length, take, drop, replicate}
+use Rattle.bits.specs.Bits.{bitsOf, number, octets}
+use Rattle.bits.specs.Crc.{blockCrcOf}
+use Rattle.bas.specs.declared.Word.the-variants.{Code}
+use Rattle.modes.specs.Numbers.{following}
+use Rattle.modes.specs.Carried.{openingOf}
+use Rattle.modes.specs.Commands.{commandOf, offered}
+use Rattle.modes.specs.declared.Mode.{Mode}
+use Rattle.modes.specs.declared.Owner.{Owner}
+use Rattle.modes.specs.declared.Owner.the-variants.{Voice, Lsd}
+use Rattle.slots.specs.Slots.{standing}
+use Rattle.slots.specs.Readings.{readingIn}
+use Rattle.slots.specs.declared.Due.{Due}
+use Rattle.slots.specs.declared.Due.the-variants.{Plain, AnItem}
+use Rattle.frame.specs.Streams.{count}
+use Rattle.frame.specs.Block.{places, blockOf}
+use Rattle.sender.specs.State.{itemDue}
+use Rattle.sender.specs.Rules.{ruleOf}
+use Rattle.sender.specs.Plans.{dueNumber, planBy}
+use Rattle.sender.specs.Step.{headerFor}
+use Rattle.sender.specs.declared.Sender.{Sender}
+use Rattle.reader.specs.State.{known, dueOf, stateInRange}
+use Rattle.reader.specs.Signs.{signsOf}
+use Rattle.reader.specs.Parts.{verdictOf}
+use Rattle.reader.specs.Step as reading
+use Rattle.reader.specs.declared.Reader.{Reader}
+use Rattle.reader.specs.declared.Report.{Report}
+use Rattle.reader.specs.declared.Outcome.{Outcome}
+use Rattle.reader.specs.declared.Answer.the-variants.{Block}
+use Rattle.reader.specs.declared.Standing.the-variants.{Read}
+use Rattle.lesson.specs.Session.{Turn, after, Entry, log, blockSent}
+
+-- ---- the octets
+-- the word that an accepted call sends
+abbrev pub wordOf : Entry → ℕ
+wordOf e = (planBy (ruleOf (e .found) (e .turn .call .mute)) (e .found) (e .turn .call .code)) .word
+
+-- an accepted call writes the block that 01 lays down for its word, cut by the mode that the call finds
+abbrev pub LaidDown : Entry → Type 0
+LaidDown e =
+    blockSent e ≡ blockOf (e .found .mode) (headerFor (e .found) (e .turn .call) (wordOf e)) (e .turn .call .mute) (e .turn .voice) (e .turn .lsd)
+
+-- what one accepted call leaves to the next: the next block's number, the remainder of the block that was written, and, unless the word
+-- was an item, the mode and the item due by that word
+pub record GoesOn (e : Entry) (s : Sender) : Type 0 where
+  pub number : s .block ≡ following (e .found .block)
+  pub remainder : s .remainder ≡ blockCrcOf (blockSent e)
+  pub mode : s .mode ≡ cond (itemDue (e .found)) (e .found .mode) (offered (commandOf (wordOf e)) (e .found .mode))
+  pub due : s .due ≡ cond (itemDue (e .found)) 0 (dueNumber (openingOf (wordOf e)))
+
+-- block after block: each is laid down, and finds what the one before left
+abbrev pub BlockAfterBlock : Sender → List Entry → Type 0
+BlockAfterBlock s [] = Unit {0}
+BlockAfterBlock s (e ∷ es) = (e .found ≡ s) × LaidDown e × GoesOn e (after s (e .turn)) × BlockAfterBlock (after s (e .turn)) es
+
+abbrev pub OctetsLaidDown : Type 0
+OctetsLaidDown = (s : Sender) (xs : List Turn) → BlockAfterBlock s (log s xs)
+
+-- ---- in step
+-- the word due at the sender
+abbrev pub wordDue : Sender → Due
+wordDue s = cond (itemDue s) AnItem Plain
+
+-- the odd-frame first bits sent since block 1 of this multiframe, before this block
+abbrev pub sentSince : ℕ → List Bool
+sentSince block = take (block - 1) (false ∷ false ∷ true ∷ false ∷ true ∷ true ∷ false ∷ false ∷ [])
+
+-- those of them among the last six
+abbrev pub lastSix : List Bool → List Bool
+lastSix bits = drop (length bits - 6) bits
+
+abbrev pub KeptAsSent : ℕ → ℕ → Type 0
+KeptAsSent block firsts = firsts % 2 ^ length (lastSix (sentSince block)) ≡ number (lastSix (sentSince block))
+
+-- place known and equal to the sender's next block, the same word due, the same audio and data in force, the odd-frame first bits kept
+-- since block 1 of this multiframe as sent
+pub record InStep (s : Sender) (r : Reader) : Type 0 where
+  pub range : stateInRange r ≡ true
+  pub knows : known r ≡ true
+  pub place : r .block ≡ s .block
+  pub due : standing (dueOf (r .slot)) ≡ wordDue s
+  pub mode : r .mode ≡ s .mode
+  pub bits : KeptAsSent (s .block .0) (r .firsts)
+
+-- ---- what a reader in step hands back of a block that arrives unharmed
+abbrev pub readerAfter : Reader → Entry → Reader
+readerAfter r e = (reading.stepOf r (signsOf (blockSent e))) .state
+
+-- as many bits as the stream has places in a block
+abbrev pub holds : Owner → Mode → ℕ
+holds o m = count o (places m ++ places m)
+
+-- each voice bit of an open block, and ones for a muted one
+abbrev pub voiceBits : Entry → List Bool
+voiceBits e =
+    let n = holds Voice (e .found .mode) in
+    cond (e .turn .call .mute) (replicate n true) (take n (bitsOf (e .turn .voice)))
+
+-- each data bit
+abbrev pub lsdBits : Entry → List Bool
+lsdBits e = take (holds Lsd (e .found .mode)) (bitsOf (e .turn .lsd))
+
+-- whatever the reader's contract allows, with buffers of the right lengths: the block is read; its word is the word sent, under the
+-- reading that its slot gives it; voice and data are the sender's, and zeros after them; the verdict is good once the remainder agrees
+pub record HandedBack (e : Entry) (r : Reader) (o : Outcome) (voice lsd : List ℕ) : Type 0 where
+  pub report : Report
+  pub answer : o .answer ≡ Block report
+  pub read : report .standing ≡ Read
+  pub word : report .reading ≡ readingIn (wordDue (e .found)) (Code (wordOf e))
+  pub verdict : report .verdict ≡ verdictOf r (e .found .remainder)
+  pub heard : voice ≡ octets 140 (voiceBits e)
+  pub given : lsd ≡ octets 156 (lsdBits e)
+  pub state : o .state ≡ readerAfter r e
+
+pub record Back (e : Entry) (r : Reader) : Type 0 where
+  pub hands : (voice lsd : List ℕ) (o : Outcome) (v d : List ℕ) → length voice ≡ 140 → length lsd ≡ 156
+      → reading.Told r (blockSent e) voice lsd o v d → HandedBack e r o v d
+  pub step : InStep (after (e .found) (e .turn)) (readerAfter r e)
+  pub agrees : (readerAfter r e) .remainder ≡ after (e .found) (e .turn) .remainder
+
+abbrev pub AllBack : Reader → List Entry → Type 0
+AllBack r [] = Unit {0}
+AllBack r (e ∷ es) = Back e r × AllBack (readerAfter r e) es
+
+-- codes are eight bits
+abbrev pub EightBits : List Turn → Type 0
+EightBits [] = Unit {0}
+EightBits (x ∷ xs) = (x .call .code < 256) × EightBits xs
+
+-- from a reader in step with the sender, over any session of calls: after each block the two are in step again
+abbrev pub StaysInStep : Type 0
+StaysInStep = (s : Sender) (r : Reader) (xs : List Turn) → EightBits xs → InStep s r → AllBack r (log s xs)
