@@ -12,11 +12,14 @@ use Rattle.bits.specs.Bits.{digit, number, octets}
 use Rattle.bits.specs.Crc.{blockCrcOf}
 use Rattle.bits.proofs.Every.{and-left, and-right}
 use Rattle.bits.proofs.PackLaws.{length-octets}
+use Rattle.bas.specs.Reading.{readingOf}
 use Rattle.bas.specs.declared.Word.the-variants.{Code}
 use Rattle.modes.specs.Numbers.{following}
+use Rattle.modes.specs.Carried.{openingOf}
 use Rattle.modes.specs.Commands.{commandOf, offered}
 use Rattle.modes.specs.declared.BlockNumber.{BlockNumber}
 use Rattle.modes.specs.declared.Mode.{Mode}
+use Rattle.modes.specs.declared.Owner.the-variants.{Voice, Lsd}
 use Rattle.modes.proofs.ModeLaws.{following-low}
 use Rattle.slots.specs.Slots.{standing, dueAfterStanding, dueAfter}
 use Rattle.slots.specs.Readings.{codeReading, readingIn, obeyed}
@@ -29,7 +32,7 @@ use Rattle.frame.specs.declared.Header.{Header}
 use Rattle.frame.proofs.HeaderLaws.{oddBit, right-alignment, first-bit-back, remainder-back, code-back}
 use Rattle.sender.specs.State.{itemDue}
 use Rattle.sender.specs.Rules.{ruleOf}
-use Rattle.sender.specs.Plans.{planBy}
+use Rattle.sender.specs.Plans.{dueNumber, planBy}
 use Rattle.sender.specs.Refusals.{goesAsItem}
 use Rattle.sender.specs.Step.{headerFor, blockFor, nextBy}
 use Rattle.sender.specs.declared.Sender.{Sender}
@@ -39,13 +42,20 @@ use Rattle.sender.proofs.RangeLaws as sending
 use Rattle.reader.specs.State.{block, known, slotOf, dueOf}
 use Rattle.reader.specs.Signs.{signsOf}
 use Rattle.reader.specs.Parts as parts
-use Rattle.reader.specs.Step as reading
+use Rattle.reader.specs.Parts.{placeAfter}
+use Rattle.reader.specs.Step.{reportOf, nextOf, stepOf, voiceBy, lsdBy, Told}
 use Rattle.reader.specs.declared.Reader.{Reader}
 use Rattle.reader.specs.declared.Signs.{Signs}
 use Rattle.reader.specs.declared.Place.{Place}
 use Rattle.reader.specs.declared.Outcome.{Outcome}
+use Rattle.reader.specs.declared.Stepped.{Stepped}
+use Rattle.reader.specs.declared.Report.{Report}
+use Rattle.reader.specs.declared.Standing.{Standing}
+use Rattle.reader.specs.declared.Standing.the-variants.{Read}
+use Rattle.reader.specs.declared.Answer.the-variants.{Block}
 use Rattle.reader.proofs.OutcomeLaws.{takes, told-taken}
 use Rattle.reader.proofs.RangeLaws.{due-back, step-in-range}
+use Rattle.sorter.specs.Sorting.{sortedOf}
 use Rattle.sorter.proofs.RoundLaws.{voice-bits-back, lsd-back}
 use Rattle.lesson.specs.Session.{Turn, turned, after, Entry, log, blockSent}
 use Rattle.lesson.specs.Demand2.{wordOf, LaidDown, GoesOn, BlockAfterBlock, OctetsLaidDown, wordDue, sentSince, lastSix, KeptAsSent, InStep, readerAfter, voiceBits, lsdBits, HandedBack, Back, AllBack, EightBits, StaysInStep}
@@ -90,3 +100,213 @@ bits-go-on =
 six-spelled : (f : ℕ) → KeptAsSent 6 f → parts.spelled (parts.lastSix f (bitOf 6)) ≡ true
 unfolding number
 six-spelled f e = let h : f % 32 ≡ 5 = e in let g : f % 32 * 2 + 1 ≡ 11 = omega arith in eq-eqb (f % 32 * 2 + 1) 11 g
+
+-- ---- what is due at a sender stands as it is
+due-stands : (b : Bool) → standing (cond b AnItem Plain) ≡ cond b AnItem Plain
+due-stands true = refl
+due-stands false = refl
+
+reading-same : (d e : Due) (n : ℕ) → standing d ≡ e → standing e ≡ e → readingIn d (Code n) ≡ readingIn e (Code n)
+unfolding readingIn
+reading-same d e n p q = ap (λ (x : Due). codeReading x n) (p ∙ sym q)
+
+after-same : (d e : Due) (n : ℕ) → standing d ≡ e → dueAfter d (Code n) ≡ dueAfterStanding e (Code n)
+unfolding dueAfter
+after-same d e n p = ap (λ (x : Due). dueAfterStanding x (Code n)) p
+
+-- ---- a place that is known goes on to the next block, and loses nothing that is due
+module _ (r : Reader) (b : BlockNumber) (due : Due) (same : r .block ≡ b) (bits : KeptAsSent (b .0) (r .firsts)) where
+  abbrev six : ℕ
+  six = parts.lastSix (r .firsts) (bitOf (b .0))
+
+  abbrev Placed : Place → Type 0
+  Placed p = (p .block ≡ following b) × (p .due ≡ due)
+
+  placed-by : (t : Bool) → eqb (r .block .0) 6 ≡ t
+      → Placed (cond t (parts.compared (r .misses) (parts.spelled six) due) (record { block = following (r .block); misses = r .misses; due = due }))
+  unfolding following
+  placed-by true t =
+      let n : b .0 ≡ 6 = ap (λ (q : BlockNumber). q .0) (sym same) ∙ eqb-true (r .block .0) 6 t in
+      let right : parts.spelled six ≡ true =
+      subst (λ (k : ℕ). KeptAsSent k (r .firsts) → parts.spelled (parts.lastSix (r .firsts) (bitOf k)) ≡ true) (sym n) (six-spelled (r .firsts)) bits in
+      let seven : block 7 ≡ following b = sym (ap (λ (k : ℕ). following (block k)) n) in
+      rw right (seven, refl)
+  placed-by false t = (ap following same, refl)
+
+  placed : known r ≡ true → Placed (placeAfter r (parts.spelled six) due)
+  unfolding placeAfter
+  placed k = rw k (placed-by (eqb (r .block .0) 6) refl)
+
+-- ---- an accepted call
+module _ (s : Sender) (x : Turn) (rule : Rule) (w : Went s x rule) where
+  abbrev entry : Entry
+  entry = record { found = s; turn = x }
+
+  abbrev plan : Plan
+  plan = planBy rule s (x .call .code)
+
+  abbrev header : Header
+  header = headerFor s (x .call) (plan .word)
+
+  sends : Sends s (x .call .code) rule
+  sends = record { kept = sending.kept s (w .goes .range); known = w .goes .known; apart = w .goes .apart }
+
+  item-is : goesAsItem rule ≡ itemDue s
+  item-is = ap goesAsItem (w .goes .rule) ∙ rule-due s (x .call .mute)
+
+  word-is : wordOf entry ≡ plan .word
+  word-is = ap (λ (q : Rule). (planBy q s (x .call .code)) .word) (sym (w .goes .rule))
+
+  line-is : blockSent entry ≡ blockOf (s .mode) header (x .call .mute) (x .voice) (x .lsd)
+  unfolding blockFor
+  line-is = w .line
+
+  -- ---- the octets, and what the call leaves to the next
+  laid-down : LaidDown entry
+  laid-down =
+      line-is
+      ∙ ap (λ (n : ℕ). blockOf (s .mode) (headerFor s (x .call) n) (x .call .mute) (x .voice) (x .lsd)) (sym word-is)
+
+  goes-on : GoesOn entry (after s x)
+  goes-on =
+      record {
+        number = ap (λ (q : Sender). q .block) (w .state);
+        remainder = ap (λ (q : Sender). q .remainder) (w .state);
+        mode =
+            ap (λ (q : Sender). q .mode) (w .state) ∙ plan-mode s (x .call .code) rule sends
+            ∙ ap₂ (λ (b : Bool) (n : ℕ). cond b (s .mode) (offered (commandOf n) (s .mode))) item-is (sym word-is);
+        due =
+            ap (λ (q : Sender). q .due) (w .state) ∙ plan-due s (x .call .code) rule sends
+            ∙ ap₂ (λ (b : Bool) (n : ℕ). cond b 0 (dueNumber (openingOf n))) item-is (sym word-is);
+      }
+
+  -- ---- what the block shows a reader
+  abbrev shown : Signs
+  shown =
+      record {
+        wrong = 0;
+        c = s .remainder;
+        first = bitOf (s .block .0);
+        word = Code (plan .word);
+        remainder = blockCrcOf (blockSent entry);
+      }
+
+  shows : x .call .code < 256 → signsOf (blockSent entry) ≡ shown
+  shows small =
+      let m = s .mode in
+      let low = leb-true (s .remainder) 15 (sends .kept .rest) in
+      let wrong = ap wrongBits line-is ∙ right-alignment m header (x .call .mute) (x .voice) (x .lsd) in
+      let c = ap cBits line-is ∙ remainder-back m header (x .call .mute) (x .voice) (x .lsd) (omega arith) in
+      let first = ap oddFirst line-is ∙ first-bit-back m header (x .call .mute) (x .voice) (x .lsd) in
+      let code = ap (λ (l : List ℕ). readingOf (basWord l)) line-is
+      ∙ code-back m header (x .call .mute) (x .voice) (x .lsd) (word-small s (x .call .code) rule sends small) in
+      rw (wrong, c, first, code)
+
+  line-length : length (blockSent entry) ≡ 160
+  unfolding blockOf
+  line-length = ap length line-is ∙ length-octets 160 _
+
+  module _ (small : x .call .code < 256) (r : Reader) (st : InStep s r) where
+    stepped : stepOf r (signsOf (blockSent entry)) ≡ record { state = nextOf r shown 0; report = reportOf r shown }
+    unfolding stepOf
+    stepped = ap (stepOf r) (shows small)
+
+    reading-is : parts.readingOf r (Code (plan .word)) ≡ readingIn (wordDue s) (Code (plan .word))
+    reading-is = rw (st .knows) (reading-same (dueOf (r .slot)) (wordDue s) (plan .word) (st .due) (due-stands (itemDue s)))
+
+    -- the word due after the block is the sender's
+    due-is : parts.dueRead r (Code (plan .word)) ≡ wordDue (after s x)
+    due-is =
+        rw (st .knows)
+        (after-same (dueOf (r .slot)) (wordDue s) (plan .word) (st .due)
+        ∙ ap (λ (b : Bool). dueAfterStanding (cond b AnItem Plain) (Code (plan .word))) (sym item-is)
+        ∙ due-after-same s (x .call .code) rule sends
+        ∙ ap (λ (q : Sender). cond (not (eqb (q .due) 0)) AnItem Plain) (sym (w .state)))
+
+    -- the two are in step again
+    again : InStep (after s x) (readerAfter r entry)
+    unfolding nextOf
+    again =
+        let next = ap (λ (q : Stepped). q .state) stepped in
+        let number = ap (λ (q : Sender). q .block) (w .state) in
+        let here = placed r (s .block) _ (st .place) (st .bits) (st .knows) in
+        let n = (following (s .block)) .0 in
+        let one = leb-true 1 n (and-left (leb 1 n) (leb n 8) (following-low (s .block))) in
+        let b = s .block .0 in
+        let within = sends .kept .block in
+        let lo = leb-true 1 b (and-left (leb 1 b) (leb b 8) within) in
+        let hi = leb-true b 8 (and-right (leb 1 b) (leb b 8) within) in
+        let place = ap (λ (q : Reader). q .block) next ∙ here .0 in
+        record {
+          range = step-in-range r (blockSent entry) (st .range);
+          knows = ap (λ (q : BlockNumber). not (eqb (q .0) 0)) place ∙ ap not (ne-eqb n 0 (omega arith));
+          place = place ∙ sym number;
+          due =
+              ap (λ (q : Reader). standing (dueOf (q .slot))) next ∙ ap standing (due-back _ ∙ here .1 ∙ due-is) ∙ due-stands (itemDue (after s x));
+          mode =
+              ap (λ (q : Reader). q .mode) next ∙ ap₂ obeyed reading-is (st .mode)
+              ∙ ap (λ (t : Bool). obeyed (readingIn (cond t AnItem Plain) (Code (plan .word))) (s .mode)) (sym item-is)
+              ∙ mode-follows s (x .call .code) rule sends ∙ sym (ap (λ (q : Sender). q .mode) (w .state));
+          bits =
+              subst (λ (q : Reader). KeptAsSent (after s x .block .0) (q .firsts)) (sym next)
+              (subst (λ (q : BlockNumber). KeptAsSent (q .0) (parts.lastSix (r .firsts) (bitOf b))) (sym number) (bits-go-on b lo hi (r .firsts) (st .bits)));
+        }
+
+    -- and what it hands out is what was sent
+    hands-back : (voice lsd : List ℕ) (o : Outcome) (v d : List ℕ) → length voice ≡ 140 → length lsd ≡ 156
+        → Told r (blockSent entry) voice lsd o v d → HandedBack entry r o v d
+    unfolding reportOf
+    hands-back voice lsd o v d hv hd told =
+        let fits = takes r _ _ _ (record { range = st .range; line-fits = line-length; voice-fits = hv; lsd-fits = hd }) in
+        let t = told-taken r (blockSent entry) voice lsd o v d fits told in
+        let is = ap (λ (q : Stepped). q .report) stepped in
+        let read : parts.standingOf r ≡ Read = rw (st .knows) in
+        let standing = ap (λ (q : Report). q .standing) is ∙ read in
+        record {
+          report = reportOf r shown;
+          answer = ap (λ (q : Outcome). q .answer) (t .0) ∙ ap Block is;
+          read = read;
+          word = reading-is ∙ ap (λ (k : ℕ). readingIn (wordDue s) (Code k)) (sym word-is);
+          verdict = refl;
+          heard =
+              t .1 ∙ ap₂ (λ (q : Standing) (m : Mode). voiceBy q m (blockSent entry)) standing (st .mode)
+              ∙ ap (sortedOf (s .mode) Voice 140) line-is
+              ∙ voice-bits-back (s .mode) header (x .call .mute) (x .voice) (x .lsd) (w .goes .voice);
+          given =
+              t .2 ∙ ap₂ (λ (q : Standing) (m : Mode). lsdBy q m (blockSent entry)) standing (st .mode)
+              ∙ ap (sortedOf (s .mode) Lsd 156) line-is
+              ∙ lsd-back (s .mode) header (x .call .mute) (x .voice) (x .lsd) (w .goes .lsd);
+          state = ap (λ (q : Outcome). q .state) (t .0);
+        }
+
+    back : Back entry r
+    unfolding nextOf
+    back =
+        record {
+          hands = hands-back;
+          step = again;
+          agrees = ap (λ (q : Stepped). q .state .remainder) stepped ∙ sym (ap (λ (q : Sender). q .remainder) (w .state));
+        }
+
+-- ---- whole sessions
+pub octets-laid-down : OctetsLaidDown
+octets-laid-down s [] = tt
+octets-laid-down s (x ∷ xs) = go (turn-cases s x) (octets-laid-down s xs) (octets-laid-down (after s x) xs)
+  where
+    go : Stayed s x ⊎ ((rule : Rule) × Went s x rule) → BlockAfterBlock s (log s xs) → BlockAfterBlock (after s x) (log (after s x) xs)
+        → BlockAfterBlock s (log s (x ∷ xs))
+    go (inl k) same next = rw (log-stayed s x xs k) same
+    go (inr (rule, w)) same next = rw (log-went s x xs rule w) (refl, laid-down s x rule w, goes-on s x rule w, next)
+
+pub stays-in-step : StaysInStep
+stays-in-step s r [] bits st = tt
+stays-in-step s r (x ∷ xs) bits st = go (turn-cases s x) (stays-in-step s r xs (bits .1) st) (λ q u. stays-in-step (after s x) q xs (bits .1) u)
+  where
+    go : Stayed s x ⊎ ((rule : Rule) × Went s x rule)
+        → AllBack r (log s xs)
+        → ((q : Reader) → InStep (after s x) q → AllBack q (log (after s x) xs))
+        → AllBack r (log s (x ∷ xs))
+    go (inl k) same next = rw (log-stayed s x xs k) same
+    go (inr (rule, w)) same next =
+        let b = back s x rule w (bits .0) r st in
+        rw (log-went s x xs rule w) (b, next (readerAfter r (record { found = s; turn = x })) (b .step))

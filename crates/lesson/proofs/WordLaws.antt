@@ -49,7 +49,6 @@ pub record Sends (s : Sender) (code : ℕ) (rule : Rule) : Type 0 where
   pub kept : Kept s
   pub known : goesPlain rule ≡ true → senderCarries code ≡ true
   pub apart : goesPlain rule ≡ true → clashes s code ≡ false
-  pub small : code < 256
 
 -- ---- audio in force has a command of its own
 audio-command : (v : ℕ) → listedAudio v ≡ true → eqb v 0 ≡ false → commandOf (written audioAttribute v) ≡ SetAudio v
@@ -80,12 +79,12 @@ module _ (s : Sender) (code : ℕ) where
   plain-carried Release k e = audio-carried (s .chosen) (k .kept .ranges .spoken)
   plain-carried Offered k e = k .known refl
 
-  pub word-small : (rule : Rule) → Sends s code rule → (planBy rule s code) .word < 256
+  pub word-small : (rule : Rule) → Sends s code rule → code < 256 → (planBy rule s code) .word < 256
   unfolding planBy
-  word-small AsItem k = k .small
-  word-small MuteOff k = omega arith
-  word-small Release k = let l = audio-small (s .chosen) (k .kept .ranges .spoken) in omega arith
-  word-small Offered k = k .small
+  word-small AsItem k small = small
+  word-small MuteOff k small = omega arith
+  word-small Release k small = let l = audio-small (s .chosen) (k .kept .ranges .spoken) in omega arith
+  word-small Offered k small = small
 
   -- what a word does to the sender's mode is what its command says
   pub plan-mode : (rule : Rule) → Sends s code rule
