@@ -1,6 +1,6 @@
 -- Demand 2: octets block after block, and a reader in step stays in step and hands back what was sent.
 use mathlib.Core.Path.{_≡_, refl, sym, ap, ap₂, subst, _∙_}
-use mathlib.Core.Bool.{Bool, true, false, not, cond, _&&_}
+use mathlib.Core.Bool.{Bool, true, false, not, cond, false≢true}
 use mathlib.Core.List.{List, [], _∷_, _++_}
 use mathlib.Core.Logic.{_⊎_, inl, inr}
 use Prim.Native.Nat.{ℕ, zero, suc, _+_, _-_, _*_, _%_, _^_, _<_, _≤_}
@@ -15,8 +15,10 @@ use Rattle.bits.proofs.PackLaws.{length-octets}
 use Rattle.bas.specs.Reading.{readingOf}
 use Rattle.bas.specs.declared.Word.the-variants.{Code}
 use Rattle.modes.specs.Numbers.{following}
-use Rattle.modes.specs.Carried.{openingOf}
-use Rattle.modes.specs.Commands.{commandOf, offered}
+use Rattle.modes.specs.Codes.{neutral}
+use Rattle.modes.specs.Table.{audioTable, beside, audioPlaces}
+use Rattle.modes.specs.Carried.{carried, readerCarries, openingOf}
+use Rattle.modes.specs.Commands.{commandOf, offered, followed}
 use Rattle.modes.specs.declared.BlockNumber.{BlockNumber}
 use Rattle.modes.specs.declared.Mode.{Mode}
 use Rattle.modes.specs.declared.Owner.the-variants.{Voice, Lsd}
@@ -58,12 +60,12 @@ use Rattle.reader.proofs.RangeLaws.{due-back, step-in-range}
 use Rattle.sorter.specs.Sorting.{sortedOf}
 use Rattle.sorter.proofs.RoundLaws.{voice-bits-back, lsd-back}
 use Rattle.lesson.specs.Session.{Turn, turned, after, Entry, log, blockSent}
-use Rattle.lesson.specs.Demand2.{wordOf, LaidDown, GoesOn, BlockAfterBlock, OctetsLaidDown, wordDue, sentSince, lastSix, KeptAsSent, InStep, readerAfter, voiceBits, lsdBits, HandedBack, Back, AllBack, EightBits, StaysInStep}
+use Rattle.lesson.specs.Demand2.{wordOf, LaidDown, GoesOn, BlockAfterBlock, OctetsLaidDown, wordDue, lastSix, KeptAsSent, Placed, InStep, Agrees, readerAfter, HandedBack, Back, AllBack, StaysInStep, JoinsAtNeutral}
 use Rattle.lesson.proofs.TurnLaws.{Stayed, Went, turn-cases, log-stayed, log-went}
 use Rattle.lesson.proofs.WordLaws.{rule-due, Sends, plain-carried, word-small, plan-mode, plan-due, mode-follows, due-after-same}
 
 -- ---- the eight blocks of a multiframe
-each : (P : ℕ → Type 0) → P 1 → P 2 → P 3 → P 4 → P 5 → P 6 → P 7 → P 8 → (b : ℕ) → 1 ≤ b → b ≤ 8 → P b
+pub each : (P : ℕ → Type 0) → P 1 → P 2 → P 3 → P 4 → P 5 → P 6 → P 7 → P 8 → (b : ℕ) → 1 ≤ b → b ≤ 8 → P b
 each P p₁ p₂ p₃ p₄ p₅ p₆ p₇ p₈ zero l u = absurd (omega arith)
 each P p₁ p₂ p₃ p₄ p₅ p₆ p₇ p₈ (suc zero) l u = p₁
 each P p₁ p₂ p₃ p₄ p₅ p₆ p₇ p₈ (suc (suc zero)) l u = p₂
@@ -76,7 +78,7 @@ each P p₁ p₂ p₃ p₄ p₅ p₆ p₇ p₈ (suc (suc (suc (suc (suc (suc (su
 each P p₁ p₂ p₃ p₄ p₅ p₆ p₇ p₈ (suc (suc (suc (suc (suc (suc (suc (suc (suc b))))))))) l u = absurd (omega arith)
 
 -- the first bit of the odd frame of a block, as it is sent
-abbrev bitOf : ℕ → Bool
+abbrev pub bitOf : ℕ → Bool
 bitOf b = oddBit ((b - 1) % 8)
 
 -- bits kept as sent, and one block more
@@ -119,36 +121,36 @@ module _ (r : Reader) (b : BlockNumber) (due : Due) (same : r .block ≡ b) (bit
   abbrev six : ℕ
   six = parts.lastSix (r .firsts) (bitOf (b .0))
 
-  abbrev Placed : Place → Type 0
-  Placed p = (p .block ≡ following b) × (p .due ≡ due)
+  abbrev Onward : Place → Type 0
+  Onward p = (p .block ≡ following b) × (p .due ≡ due)
 
-  placed-by : (t : Bool) → eqb (r .block .0) 6 ≡ t
-      → Placed (cond t (parts.compared (r .misses) (parts.spelled six) due) (record { block = following (r .block); misses = r .misses; due = due }))
+  onward-by : (t : Bool) → eqb (r .block .0) 6 ≡ t
+      → Onward (cond t (parts.compared (r .misses) (parts.spelled six) due) (record { block = following (r .block); misses = r .misses; due = due }))
   unfolding following
-  placed-by true t =
+  onward-by true t =
       let n : b .0 ≡ 6 = ap (λ (q : BlockNumber). q .0) (sym same) ∙ eqb-true (r .block .0) 6 t in
       let right : parts.spelled six ≡ true =
       subst (λ (k : ℕ). KeptAsSent k (r .firsts) → parts.spelled (parts.lastSix (r .firsts) (bitOf k)) ≡ true) (sym n) (six-spelled (r .firsts)) bits in
       let seven : block 7 ≡ following b = sym (ap (λ (k : ℕ). following (block k)) n) in
       rw right (seven, refl)
-  placed-by false t = (ap following same, refl)
+  onward-by false t = (ap following same, refl)
 
-  placed : known r ≡ true → Placed (placeAfter r (parts.spelled six) due)
+  onward : known r ≡ true → Onward (placeAfter r (parts.spelled six) due)
   unfolding placeAfter
-  placed k = rw k (placed-by (eqb (r .block .0) 6) refl)
+  onward k = rw k (onward-by (eqb (r .block .0) 6) refl)
 
 -- ---- an accepted call
 module _ (s : Sender) (x : Turn) (rule : Rule) (w : Went s x rule) where
-  abbrev entry : Entry
+  abbrev pub entry : Entry
   entry = record { found = s; turn = x }
 
-  abbrev plan : Plan
+  abbrev pub plan : Plan
   plan = planBy rule s (x .call .code)
 
   abbrev header : Header
   header = headerFor s (x .call) (plan .word)
 
-  sends : Sends s (x .call .code) rule
+  pub sends : Sends s (x .call .code) rule
   sends = record { kept = sending.kept s (w .goes .range); known = w .goes .known; apart = w .goes .apart }
 
   item-is : goesAsItem rule ≡ itemDue s
@@ -181,7 +183,7 @@ module _ (s : Sender) (x : Turn) (rule : Rule) (w : Went s x rule) where
       }
 
   -- ---- what the block shows a reader
-  abbrev shown : Signs
+  abbrev pub shown : Signs
   shown =
       record {
         wrong = 0;
@@ -206,11 +208,11 @@ module _ (s : Sender) (x : Turn) (rule : Rule) (w : Went s x rule) where
   unfolding blockOf
   line-length = ap length line-is ∙ length-octets 160 _
 
-  module _ (small : x .call .code < 256) (r : Reader) (st : InStep s r) where
-    stepped : stepOf r (signsOf (blockSent entry)) ≡ record { state = nextOf r shown 0; report = reportOf r shown }
-    unfolding stepOf
-    stepped = ap (stepOf r) (shows small)
+  pub stepped : x .call .code < 256 → (r : Reader) → stepOf r (signsOf (blockSent entry)) ≡ record { state = nextOf r shown 0; report = reportOf r shown }
+  unfolding stepOf
+  stepped small r = ap (stepOf r) (shows small)
 
+  module _ (small : x .call .code < 256) (r : Reader) (st : Placed s r) where
     reading-is : parts.readingOf r (Code (plan .word)) ≡ readingIn (wordDue s) (Code (plan .word))
     reading-is = rw (st .knows) (reading-same (dueOf (r .slot)) (wordDue s) (plan .word) (st .due) (due-stands (itemDue s)))
 
@@ -223,13 +225,17 @@ module _ (s : Sender) (x : Turn) (rule : Rule) (w : Went s x rule) where
         ∙ due-after-same s (x .call .code) rule sends
         ∙ ap (λ (q : Sender). cond (not (eqb (q .due) 0)) AnItem Plain) (sym (w .state)))
 
-    -- the two are in step again
-    again : InStep (after s x) (readerAfter r entry)
+    next : readerAfter r entry ≡ nextOf r shown 0
+    next = ap (λ (q : Stepped). q .state) (stepped small r)
+
+    number-on : after s x .block ≡ following (s .block)
+    number-on = ap (λ (q : Sender). q .block) (w .state)
+
+    -- the place goes on
+    placed-again : Placed (after s x) (readerAfter r entry)
     unfolding nextOf
-    again =
-        let next = ap (λ (q : Stepped). q .state) stepped in
-        let number = ap (λ (q : Sender). q .block) (w .state) in
-        let here = placed r (s .block) _ (st .place) (st .bits) (st .knows) in
+    placed-again =
+        let here = onward r (s .block) _ (st .place) (st .bits) (st .knows) in
         let n = (following (s .block)) .0 in
         let one = leb-true 1 n (and-left (leb 1 n) (leb n 8) (following-low (s .block))) in
         let b = s .block .0 in
@@ -240,26 +246,50 @@ module _ (s : Sender) (x : Turn) (rule : Rule) (w : Went s x rule) where
         record {
           range = step-in-range r (blockSent entry) (st .range);
           knows = ap (λ (q : BlockNumber). not (eqb (q .0) 0)) place ∙ ap not (ne-eqb n 0 (omega arith));
-          place = place ∙ sym number;
+          place = place ∙ sym number-on;
           due =
               ap (λ (q : Reader). standing (dueOf (q .slot))) next ∙ ap standing (due-back _ ∙ here .1 ∙ due-is) ∙ due-stands (itemDue (after s x));
-          mode =
-              ap (λ (q : Reader). q .mode) next ∙ ap₂ obeyed reading-is (st .mode)
-              ∙ ap (λ (t : Bool). obeyed (readingIn (cond t AnItem Plain) (Code (plan .word))) (s .mode)) (sym item-is)
-              ∙ mode-follows s (x .call .code) rule sends ∙ sym (ap (λ (q : Sender). q .mode) (w .state));
           bits =
               subst (λ (q : Reader). KeptAsSent (after s x .block .0) (q .firsts)) (sym next)
-              (subst (λ (q : BlockNumber). KeptAsSent (q .0) (parts.lastSix (r .firsts) (bitOf b))) (sym number) (bits-go-on b lo hi (r .firsts) (st .bits)));
+              (subst (λ (q : BlockNumber). KeptAsSent (q .0) (parts.lastSix (r .firsts) (bitOf b))) (sym number-on) (bits-go-on b lo hi (r .firsts) (st .bits)));
         }
 
-    -- and what it hands out is what was sent
-    hands-back : (voice lsd : List ℕ) (o : Outcome) (v d : List ℕ) → length voice ≡ 140 → length lsd ≡ 156
+    -- the reader's mode is what the word made of it
+    mode-read : (readerAfter r entry) .mode ≡ obeyed (readingIn (wordDue s) (Code (plan .word))) (r .mode)
+    unfolding nextOf
+    mode-read = ap (λ (q : Reader). q .mode) next ∙ ap (λ (q : Reading). obeyed q (r .mode)) reading-is
+
+    mode-again : r .mode ≡ s .mode → (readerAfter r entry) .mode ≡ after s x .mode
+    mode-again same =
+        mode-read
+        ∙ ap₂ (λ (t : Bool) (m : Mode). obeyed (readingIn (cond t AnItem Plain) (Code (plan .word))) m) (sym item-is) same
+        ∙ mode-follows s (x .call .code) rule sends ∙ sym (ap (λ (q : Sender). q .mode) (w .state))
+
+    -- neutral makes any two modes the same
+    neutral-again : itemDue s ≡ false → plan .word ≡ neutral → (readerAfter r entry) .mode ≡ after s x .mode
+    unfolding obeyed followed offered readingIn commandOf readerCarries carried audioPlaces audioTable beside
+    neutral-again none is =
+        mode-read
+        ∙ ap₂ (λ (t : Bool) (n : ℕ). obeyed (readingIn (cond t AnItem Plain) (Code n)) (r .mode)) none is
+        ∙ sym (goes-on .mode
+        ∙ ap₂ (λ (t : Bool) (n : ℕ). cond t (s .mode) (offered (commandOf n) (s .mode))) none (word-is ∙ is))
+
+    agrees-again : Agrees (after s x) (readerAfter r entry)
+    unfolding nextOf
+    agrees-again =
+        record {
+          before = ap (λ (q : Reader). q .before) next;
+          remainder = ap (λ (q : Reader). q .remainder) next ∙ sym (ap (λ (q : Sender). q .remainder) (w .state));
+        }
+
+    -- what it hands out is what was sent
+    hands-back : r .mode ≡ s .mode → (voice lsd : List ℕ) (o : Outcome) (v d : List ℕ) → length voice ≡ 140 → length lsd ≡ 156
         → Told r (blockSent entry) voice lsd o v d → HandedBack entry r o v d
     unfolding reportOf
-    hands-back voice lsd o v d hv hd told =
+    hands-back same voice lsd o v d hv hd told =
         let fits = takes r _ _ _ (record { range = st .range; line-fits = line-length; voice-fits = hv; lsd-fits = hd }) in
         let t = told-taken r (blockSent entry) voice lsd o v d fits told in
-        let is = ap (λ (q : Stepped). q .report) stepped in
+        let is = ap (λ (q : Stepped). q .report) (stepped small r) in
         let read : parts.standingOf r ≡ Read = rw (st .knows) in
         let standing = ap (λ (q : Report). q .standing) is ∙ read in
         record {
@@ -267,26 +297,26 @@ module _ (s : Sender) (x : Turn) (rule : Rule) (w : Went s x rule) where
           answer = ap (λ (q : Outcome). q .answer) (t .0) ∙ ap Block is;
           read = read;
           word = reading-is ∙ ap (λ (k : ℕ). readingIn (wordDue s) (Code k)) (sym word-is);
-          verdict = refl;
+          first = λ z. rw (eq-eqb (r .before) 0 z);
+          good = λ a. rw (a .before, eq-eqb (s .remainder) (r .remainder) (sym (a .remainder)));
           heard =
-              t .1 ∙ ap₂ (λ (q : Standing) (m : Mode). voiceBy q m (blockSent entry)) standing (st .mode)
+              t .1 ∙ ap₂ (λ (q : Standing) (m : Mode). voiceBy q m (blockSent entry)) standing same
               ∙ ap (sortedOf (s .mode) Voice 140) line-is
               ∙ voice-bits-back (s .mode) header (x .call .mute) (x .voice) (x .lsd) (w .goes .voice);
           given =
-              t .2 ∙ ap₂ (λ (q : Standing) (m : Mode). lsdBy q m (blockSent entry)) standing (st .mode)
+              t .2 ∙ ap₂ (λ (q : Standing) (m : Mode). lsdBy q m (blockSent entry)) standing same
               ∙ ap (sortedOf (s .mode) Lsd 156) line-is
               ∙ lsd-back (s .mode) header (x .call .mute) (x .voice) (x .lsd) (w .goes .lsd);
           state = ap (λ (q : Outcome). q .state) (t .0);
         }
 
-    back : Back entry r
-    unfolding nextOf
-    back =
-        record {
-          hands = hands-back;
-          step = again;
-          agrees = ap (λ (q : Stepped). q .state .remainder) stepped ∙ sym (ap (λ (q : Sender). q .remainder) (w .state));
-        }
+  back : x .call .code < 256 → (r : Reader) → InStep s r → Back entry r
+  back small r st =
+      record {
+        hands = hands-back small r (st .placed) (st .mode);
+        step = record { placed = placed-again small r (st .placed); mode = mode-again small r (st .placed) (st .mode) };
+        agrees = agrees-again small r (st .placed);
+      }
 
 -- ---- whole sessions
 pub octets-laid-down : OctetsLaidDown
@@ -310,3 +340,15 @@ stays-in-step s r (x ∷ xs) bits st = go (turn-cases s x) (stays-in-step s r xs
     go (inr (rule, w)) same next =
         let b = back s x rule w (bits .0) r st in
         rw (log-went s x xs rule w) (b, next (readerAfter r (record { found = s; turn = x })) (b .step))
+
+-- ---- coming into step
+pub joins-at-neutral : JoinsAtNeutral
+joins-at-neutral s r x small taken st none is = go (turn-cases s x)
+  where
+    go : Stayed s x ⊎ ((rule : Rule) × Went s x rule) → InStep (after s x) (readerAfter r (record { found = s; turn = x }))
+    go (inl k) = absurd (false≢true (rw (k .answer) at taken))
+    go (inr (rule, w)) =
+        record {
+          placed = placed-again s x rule w small r st;
+          mode = neutral-again s x rule w small r st none (sym (word-is s x rule w) ∙ is);
+        }

@@ -2,6 +2,7 @@ pub mod TurnLaws
 pub mod RefusalLaws
 pub mod WordLaws
 pub mod InStepLaws
+pub mod JoinLaws
 pub mod SilenceLaws
 pub mod MuteLaws
 pub mod FigureLaws

@@ -3,14 +3,16 @@
 use mathlib.Core.Path.{_≡_}
 use mathlib.Core.Bool.{Bool, true, false, cond}
 use mathlib.Core.List.{List, [], _∷_, _++_}
-use Prim.Native.Nat.{ℕ, _-_, _%_, _^_, _<_}
+use Prim.Native.Nat.{ℕ, zero, suc, _-_, _%_, _^_, _<_, _≤_}
+use lib.Dec.{eqb}
 use lib.ListN.{length, take, drop, replicate}
 use Rattle.bits.specs.Bits.{bitsOf, number, octets}
 use Rattle.bits.specs.Crc.{blockCrcOf}
 use Rattle.bas.specs.declared.Word.the-variants.{Code}
+use Rattle.modes.specs.Codes.{neutral, audioOff, lsdOff}
 use Rattle.modes.specs.Numbers.{following}
 use Rattle.modes.specs.Carried.{openingOf}
-use Rattle.modes.specs.Commands.{commandOf, offered}
+use Rattle.modes.specs.Commands.{mode, commandOf, offered}
 use Rattle.modes.specs.declared.Mode.{Mode}
 use Rattle.modes.specs.declared.Owner.{Owner}
 use Rattle.modes.specs.declared.Owner.the-variants.{Voice, Lsd}
@@ -20,21 +22,22 @@ use Rattle.slots.specs.declared.Due.{Due}
 use Rattle.slots.specs.declared.Due.the-variants.{Plain, AnItem}
 use Rattle.frame.specs.Streams.{count}
 use Rattle.frame.specs.Block.{places, blockOf}
+use Rattle.sender.specs.State as sending
 use Rattle.sender.specs.State.{itemDue}
 use Rattle.sender.specs.Rules.{ruleOf}
 use Rattle.sender.specs.Plans.{dueNumber, planBy}
 use Rattle.sender.specs.Step.{headerFor}
 use Rattle.sender.specs.declared.Sender.{Sender}
-use Rattle.reader.specs.State.{known, dueOf, stateInRange}
+use Rattle.reader.specs.State.{unknown, known, slotOf, dueOf, stateInRange, freshIn}
 use Rattle.reader.specs.Signs.{signsOf}
-use Rattle.reader.specs.Parts.{verdictOf}
 use Rattle.reader.specs.Step as reading
 use Rattle.reader.specs.declared.Reader.{Reader}
 use Rattle.reader.specs.declared.Report.{Report}
 use Rattle.reader.specs.declared.Outcome.{Outcome}
 use Rattle.reader.specs.declared.Answer.the-variants.{Block}
 use Rattle.reader.specs.declared.Standing.the-variants.{Read}
-use Rattle.lesson.specs.Session.{Turn, after, Entry, log, blockSent}
+use Rattle.reader.specs.declared.Verdict.the-variants.{None, Good}
+use Rattle.lesson.specs.Session.{Turn, turned, after, accepted, Entry, log, blockSent}
 
 -- ---- the octets
 -- the word that an accepted call sends
@@ -78,15 +81,24 @@ lastSix bits = drop (length bits - 6) bits
 abbrev pub KeptAsSent : ℕ → ℕ → Type 0
 KeptAsSent block firsts = firsts % 2 ^ length (lastSix (sentSince block)) ≡ number (lastSix (sentSince block))
 
--- place known and equal to the sender's next block, the same word due, the same audio and data in force, the odd-frame first bits kept
--- since block 1 of this multiframe as sent
-pub record InStep (s : Sender) (r : Reader) : Type 0 where
+-- place known and equal to the sender's next block, the same word due, the odd-frame first bits kept since block 1 of this multiframe as
+-- sent
+pub record Placed (s : Sender) (r : Reader) : Type 0 where
   pub range : stateInRange r ≡ true
   pub knows : known r ≡ true
   pub place : r .block ≡ s .block
   pub due : standing (dueOf (r .slot)) ≡ wordDue s
-  pub mode : r .mode ≡ s .mode
   pub bits : KeptAsSent (s .block .0) (r .firsts)
+
+-- and the same audio and data in force
+pub record InStep (s : Sender) (r : Reader) : Type 0 where
+  pub placed : Placed s r
+  pub mode : r .mode ≡ s .mode
+
+-- the reader has a block before, and its remainder is the one that the sender goes on with
+pub record Agrees (s : Sender) (r : Reader) : Type 0 where
+  pub before : r .before ≡ 1
+  pub remainder : r .remainder ≡ s .remainder
 
 -- ---- what a reader in step hands back of a block that arrives unharmed
 abbrev pub readerAfter : Reader → Entry → Reader
@@ -107,13 +119,15 @@ abbrev pub lsdBits : Entry → List Bool
 lsdBits e = take (holds Lsd (e .found .mode)) (bitsOf (e .turn .lsd))
 
 -- whatever the reader's contract allows, with buffers of the right lengths: the block is read; its word is the word sent, under the
--- reading that its slot gives it; voice and data are the sender's, and zeros after them; the verdict is good once the remainder agrees
+-- reading that its slot gives it; voice and data are the sender's, and zeros after them; every verdict but a first is good once the
+-- remainder agrees
 pub record HandedBack (e : Entry) (r : Reader) (o : Outcome) (voice lsd : List ℕ) : Type 0 where
   pub report : Report
   pub answer : o .answer ≡ Block report
   pub read : report .standing ≡ Read
   pub word : report .reading ≡ readingIn (wordDue (e .found)) (Code (wordOf e))
-  pub verdict : report .verdict ≡ verdictOf r (e .found .remainder)
+  pub first : r .before ≡ 0 → report .verdict ≡ None
+  pub good : Agrees (e .found) r → report .verdict ≡ Good
   pub heard : voice ≡ octets 140 (voiceBits e)
   pub given : lsd ≡ octets 156 (lsdBits e)
   pub state : o .state ≡ readerAfter r e
@@ -122,7 +136,7 @@ pub record Back (e : Entry) (r : Reader) : Type 0 where
   pub hands : (voice lsd : List ℕ) (o : Outcome) (v d : List ℕ) → length voice ≡ 140 → length lsd ≡ 156
       → reading.Told r (blockSent e) voice lsd o v d → HandedBack e r o v d
   pub step : InStep (after (e .found) (e .turn)) (readerAfter r e)
-  pub agrees : (readerAfter r e) .remainder ≡ after (e .found) (e .turn) .remainder
+  pub agrees : Agrees (after (e .found) (e .turn)) (readerAfter r e)
 
 abbrev pub AllBack : Reader → List Entry → Type 0
 AllBack r [] = Unit {0}
@@ -136,3 +150,45 @@ EightBits (x ∷ xs) = (x .call .code < 256) × EightBits xs
 -- from a reader in step with the sender, over any session of calls: after each block the two are in step again
 abbrev pub StaysInStep : Type 0
 StaysInStep = (s : Sender) (r : Reader) (xs : List Turn) → EightBits xs → InStep s r → AllBack r (log s xs)
+
+-- ---- coming into step
+-- a reader that waits: place unknown, no word due, no first bits kept
+pub record Waits (r : Reader) : Type 0 where
+  pub range : stateInRange r ≡ true
+  pub place : r .block ≡ unknown
+  pub due : r .slot ≡ slotOf Plain
+  pub bits : r .firsts ≡ 0b111111
+
+-- a fresh reader waits
+abbrev pub FreshWaits : Type 0
+FreshWaits = Waits (freshIn (mode audioOff lsdOff))
+
+-- how many blocks there are up to block 6 of the first multiframe that a reader hears whole
+abbrev pub untilSix : ℕ → ℕ
+untilSix block = cond (eqb block 1) 6 (15 - block)
+
+-- sender and reader after n accepted calls
+abbrev pub senderOn : ℕ → Sender → List Entry → Sender
+senderOn zero s es = s
+senderOn (suc n) s [] = s
+senderOn (suc n) s (e ∷ es) = senderOn n (after s (e .turn)) es
+
+abbrev pub readerOn : ℕ → Reader → List Entry → Reader
+readerOn zero r es = r
+readerOn (suc n) r [] = r
+readerOn (suc n) r (e ∷ es) = readerOn n (readerAfter r e) es
+
+-- a reader that begins to read at any block knows its place after so many, and is in step with the sender if it missed no command and
+-- no item is due
+abbrev pub ComesIntoStep : Type 0
+ComesIntoStep = (s : Sender) (r : Reader) (xs : List Turn) → sending.stateInRange s ≡ true → EightBits xs → Waits r
+    → (let n = untilSix (s .block .0) in
+    let s₁ = senderOn n s (log s xs) in
+    let r₁ = readerOn n r (log s xs) in
+    n ≤ length (log s xs) → s₁ .mode ≡ r .mode → itemDue s₁ ≡ false → InStep s₁ r₁)
+
+-- and one that missed commands is in step after neutral
+abbrev pub JoinsAtNeutral : Type 0
+JoinsAtNeutral = (s : Sender) (r : Reader) (x : Turn) → x .call .code < 256 → accepted ((turned s x) .outcome .answer) ≡ true
+    → (let e : Entry = record { found = s; turn = x } in
+    Placed s r → itemDue s ≡ false → wordOf e ≡ neutral → InStep (after s x) (readerAfter r e))

@@ -1,0 +1,109 @@
+-- Demand 2: a reader that begins to read at any block comes into step by itself.
+use mathlib.Core.Path.{_≡_, refl, sym, ap, subst, _∙_}
+use mathlib.Core.Bool.{Bool, true, false, not, cond, _&&_, false≢true}
+use mathlib.Core.List.{List, [], _∷_}
+use mathlib.Core.Logic.{_⊎_, inl, inr}
+use Prim.Native.Nat.{ℕ, zero, suc, _<_, _≤_}
+use native.Mathlib.Omega.{arith}
+use lib.Dec.{eqb, leb}
+use lib.ListN.{length}
+use borrow.Author.Tests.{eqb-true, leb-true, not-true}
+use Rattle.bits.specs.Bits.{number}
+use Rattle.bits.proofs.Every.{and-left, and-right}
+use Rattle.modes.specs.Codes.{audioOff, lsdOff}
+use Rattle.modes.specs.Numbers.{following}
+use Rattle.modes.specs.Commands.{mode}
+use Rattle.modes.specs.declared.BlockNumber.{BlockNumber}
+use Rattle.slots.specs.Slots.{standing}
+use Rattle.slots.specs.Readings.{obeyed}
+use Rattle.slots.specs.declared.Due.{Due}
+use Rattle.slots.specs.declared.Due.the-variants.{Plain, AnItem}
+use Rattle.sender.specs.State as sending
+use Rattle.sender.specs.State.{itemDue}
+use Rattle.sender.specs.declared.Sender.{Sender}
+use Rattle.sender.specs.declared.Rule.{Rule}
+use Rattle.sender.proofs.RangeLaws.{kept}
+use Rattle.reader.specs.State.{block, unknown, known, slotOf, dueOf, stateInRange, freshIn}
+use Rattle.reader.specs.Parts as parts
+use Rattle.reader.specs.Parts.{placeAfter}
+use Rattle.reader.specs.Step.{nextOf}
+use Rattle.reader.specs.declared.Reader.{Reader}
+use Rattle.reader.specs.declared.Slot.{Slot}
+use Rattle.reader.specs.declared.Stepped.{Stepped}
+use Rattle.reader.proofs.RangeLaws.{fresh-in-range, step-in-range}
+use Rattle.lesson.specs.Session.{Turn, after, Entry, log, blockSent}
+use Rattle.lesson.specs.Demand2.{wordDue, KeptAsSent, Placed, InStep, readerAfter, EightBits, Waits, FreshWaits, untilSix, senderOn, readerOn, ComesIntoStep}
+use Rattle.lesson.proofs.TurnLaws.{Stayed, Went, turn-cases, log-stayed, log-went}
+use Rattle.lesson.proofs.InStepLaws.{each, bitOf, entry, shown, stepped}
+
+pub fresh-waits : FreshWaits
+fresh-waits = record { range = fresh-in-range; place = refl; due = refl; bits = refl }
+
+-- a reader that waits, with these first bits
+record Seeks (r : Reader) (f : ℕ) : Type 0 where
+  range : stateInRange r ≡ true
+  place : r .block ≡ unknown
+  due : r .slot ≡ slotOf Plain
+  bits : r .firsts ≡ f
+
+-- the first bits after a block
+abbrev on : ℕ → ℕ → ℕ
+on b f = parts.lastSix f (bitOf b)
+
+-- the pattern comes with the nth block from block b on, which is block 6, and not before
+abbrev foundAt : ℕ → ℕ → ℕ → Bool
+foundAt zero b f = false
+foundAt (suc zero) b f = eqb b 6 && parts.spelled (on b f)
+foundAt (suc (suc n)) b f = not (parts.spelled (on b f)) && foundAt (suc n) ((following (block b)) .0) (on b f)
+
+-- from no bits, which a reader holds as ones, and any block of the eight: antt computes it
+found-in-time : (b : ℕ) → 1 ≤ b → b ≤ 8 → foundAt (untilSix b) b 0b111111 ≡ true
+unfolding following
+found-in-time = each (λ (b : ℕ). foundAt (untilSix b) b 0b111111 ≡ true) refl refl refl refl refl refl refl refl
+
+-- ---- one block heard while waiting
+module _ (s : Sender) (x : Turn) (rule : Rule) (w : Went s x rule) (small : x .call .code < 256) (r : Reader) (f : ℕ) (k : Seeks r f) where
+  abbrev heard : Entry
+  heard = record { found = s; turn = x }
+
+  next : readerAfter r heard ≡ nextOf r (shown s x rule w) 0
+  next = ap (λ (q : Stepped). q .state) (stepped s x rule w small r)
+
+  not-known : known r ≡ false
+  not-known = ap (λ (q : BlockNumber). not (eqb (q .0) 0)) (k .place)
+
+  firsts-on : (readerAfter r heard) .firsts ≡ on (s .block .0) f
+  unfolding nextOf
+  firsts-on = ap (λ (q : Reader). q .firsts) next ∙ ap (λ (n : ℕ). on (s .block .0) n) (k .bits)
+
+  mode-on : (readerAfter r heard) .mode ≡ r .mode
+  unfolding nextOf obeyed
+  mode-on = ap (λ (q : Reader). q .mode) next ∙ rw not-known
+
+  block-on : (readerAfter r heard) .block ≡ parts.sought (parts.spelled (on (s .block .0) f))
+  unfolding nextOf placeAfter
+  block-on = ap (λ (q : Reader). q .block) next ∙ rw (not-known, k .bits)
+
+  slot-on : (readerAfter r heard) .slot ≡ slotOf Plain
+  unfolding nextOf placeAfter
+  slot-on = ap (λ (q : Reader). q .slot) next ∙ rw (not-known, k .due)
+
+  seeks-on : parts.spelled (on (s .block .0) f) ≡ false → Seeks (readerAfter r heard) (on (s .block .0) f)
+  seeks-on e =
+      record { range = step-in-range r (blockSent heard) (k .range); place = block-on ∙ rw e; due = slot-on; bits = firsts-on }
+
+  finds : s .block .0 ≡ 6 → parts.spelled (on (s .block .0) f) ≡ true → itemDue (after s x) ≡ false → Placed (after s x) (readerAfter r heard)
+  unfolding following number
+  finds six e none =
+      let seventh : (readerAfter r heard) .block ≡ block 7 = block-on ∙ rw e in
+      let number-on : after s x .block ≡ block 7 = ap (λ (q : Sender). q .block) (w .state) ∙ ap (λ (n : ℕ). following (block n)) six in
+      let eleven : (readerAfter r heard) .firsts ≡ 11 = firsts-on ∙ eqb-true (on (s .block .0) f) 11 e in
+      record {
+        range = step-in-range r (blockSent heard) (k .range);
+        knows = ap (λ (q : BlockNumber). not (eqb (q .0) 0)) seventh;
+        place = seventh ∙ sym number-on;
+        due = ap (λ (q : Slot). standing (dueOf q)) slot-on ∙ sym (ap (λ (b : Bool). cond b AnItem Plain) none);
+        bits =
+            subst (λ (q : BlockNumber). KeptAsSent (q .0) ((readerAfter r heard) .firsts)) (sym number-on)
+            (subst (λ (n : ℕ). KeptAsSent 7 n) (sym eleven) refl);
+      }
