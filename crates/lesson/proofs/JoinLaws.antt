@@ -107,3 +107,64 @@ module _ (s : Sender) (x : Turn) (rule : Rule) (w : Went s x rule) (small : x .c
             subst (λ (q : BlockNumber). KeptAsSent (q .0) ((readerAfter r heard) .firsts)) (sym number-on)
             (subst (λ (n : ℕ). KeptAsSent 7 n) (sym eleven) refl);
       }
+
+-- ---- over a session
+abbrev Joins : ℕ → Sender → Reader → List Entry → Type 0
+Joins n s r es =
+    n ≤ length es → (senderOn n s es) .mode ≡ r .mode → itemDue (senderOn n s es) ≡ false → InStep (senderOn n s es) (readerOn n r es)
+
+module _ (s : Sender) (x : Turn) (rule : Rule) (w : Went s x rule) (small : x .call .code < 256) (r : Reader) (f : ℕ) (k : Seeks r f)
+    (es : List Entry) where
+  abbrev one : Entry
+  one = record { found = s; turn = x }
+
+  -- the block was the last one wanted
+  last-block : foundAt 1 (s .block .0) f ≡ true → Joins 1 s r (one ∷ es)
+  last-block e many same none =
+      let six = eqb-true (s .block .0) 6 (and-left (eqb (s .block .0) 6) (parts.spelled (on (s .block .0) f)) e) in
+      let right = and-right (eqb (s .block .0) 6) (parts.spelled (on (s .block .0) f)) e in
+      record { placed = finds s x rule w small r f k six right none; mode = mode-on s x rule w small r f k ∙ sym same }
+
+  -- or more are to come
+  more-blocks : (n : ℕ) → foundAt (suc (suc n)) (s .block .0) f ≡ true
+      → (Seeks (readerAfter r one) (on (s .block .0) f) → foundAt (suc n) (after s x .block .0) (on (s .block .0) f) ≡ true → Joins (suc n) (after s x) (readerAfter r one) es)
+      → Joins (suc (suc n)) s r (one ∷ es)
+  more-blocks n e later many same none =
+      let spelled = parts.spelled (on (s .block .0) f) in
+      let rest = foundAt (suc n) ((following (s .block)) .0) (on (s .block .0) f) in
+      let wrong = not-true spelled (and-left (not spelled) rest e) in
+      let number-on = ap (λ (q : Sender). q .block) (w .state) in
+      later (seeks-on s x rule w small r f k wrong)
+      (ap (λ (q : BlockNumber). foundAt (suc n) (q .0) (on (s .block .0) f)) number-on ∙ and-right (not spelled) rest e)
+      (omega arith) (same ∙ sym (mode-on s x rule w small r f k)) none
+
+  -- by how many are wanted
+  one-more : (n : ℕ) → foundAt n (s .block .0) f ≡ true
+      → ((m : ℕ) → Seeks (readerAfter r one) (on (s .block .0) f) → foundAt m (after s x .block .0) (on (s .block .0) f) ≡ true → Joins m (after s x) (readerAfter r one) es)
+      → Joins n s r (one ∷ es)
+  one-more zero e later = absurd (false≢true e)
+  one-more (suc zero) e later = last-block e
+  one-more (suc (suc n)) e later = more-blocks n e (later (suc n))
+
+joins : (xs : List Turn) (n : ℕ) (s : Sender) (r : Reader) (f : ℕ) → EightBits xs → Seeks r f → foundAt n (s .block .0) f ≡ true → Joins n s r (log s xs)
+joins [] zero s r f bits k e = absurd (false≢true e)
+joins [] (suc n) s r f bits k e = λ many. absurd (omega arith)
+joins (x ∷ xs) n s r f bits k e =
+    go (turn-cases s x) (joins xs n s r f (bits .1) k e) (λ m q g kq eq. joins xs m (after s x) q g (bits .1) kq eq)
+  where
+    go : Stayed s x ⊎ ((rule : Rule) × Went s x rule) → Joins n s r (log s xs)
+        → ((m : ℕ) (q : Reader) (g : ℕ) → Seeks q g → foundAt m (after s x .block .0) g ≡ true → Joins m (after s x) q (log (after s x) xs))
+        → Joins n s r (log s (x ∷ xs))
+    go (inl stayed) same later = subst (Joins n s r) (sym (log-stayed s x xs stayed)) same
+    go (inr (rule, w)) same later =
+        subst (Joins n s r) (sym (log-went s x xs rule w))
+        (one-more s x rule w (bits .0) r f k (log (after s x) xs) n e (λ m kq eq. later m _ _ kq eq))
+
+pub comes-into-step : ComesIntoStep
+comes-into-step s r xs range bits wait =
+    let b = s .block .0 in
+    let within = kept s range .block in
+    let lo = leb-true 1 b (and-left (leb 1 b) (leb b 8) within) in
+    let hi = leb-true b 8 (and-right (leb 1 b) (leb b 8) within) in
+    let k : Seeks r 63 = record { range = wait .range; place = wait .place; due = wait .due; bits = wait .bits } in
+    joins xs (untilSix b) s r 63 bits k (found-in-time b lo hi)
