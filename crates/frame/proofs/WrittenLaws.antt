@@ -8,8 +8,8 @@ use native.Mathlib.Nat.{add-zero, eq-or-lt-of-le, le-of-suc-le-suc}
 use native.Mathlib.Numerals.{add-one}
 use native.Mathlib.Omega.{arith}
 use borrow.Rule.Slice.PartMut.{putMid}
-use lib.ListN.{length, getD, List·getD-append, drop, set, length-append, drop-of-length-le}
-use lib.Seq.{drop-nil, drop-at, take-at, set-at, drop-cons, append-snoc, getD-append-add}
+use lib.ListN.{length, getD, List·getD-append, drop, length-append, drop-of-length-le}
+use lib.Seq.{drop-nil, drop-at, take-at, getD-append-add}
 use Rattle.bits.specs.Bits.{number, octets}
 use Rattle.bits.proofs.PackLaws.{length-octets, octets-append, octets-one}
 use Rattle.modes.specs.declared.Owner.{Owner}

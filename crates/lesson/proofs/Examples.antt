@@ -1,4 +1,4 @@
--- Demand 3 supposes nothing that cannot be: sessions that meet what each of its parts asks, and that differ where they may.
+-- The promises suppose nothing that cannot be: states and sessions that meet what each of them asks.
 use mathlib.Core.Path.{_≡_, refl, sym, ap}
 use mathlib.Core.Bool.{Bool, true, false, false≢true}
 use mathlib.Core.List.{List, [], _∷_}
@@ -7,7 +7,8 @@ use Prim.Native.Nat.{ℕ}
 use native.Mathlib.Omega.{arith}
 use lib.ListN.{getD, replicate}
 use Rattle.bits.specs.Crc.{blockCrcOf}
-use Rattle.modes.specs.Codes.{audioOff}
+use Rattle.bits.specs.Bits.{number}
+use Rattle.modes.specs.Codes.{neutral, audioOff}
 use Rattle.modes.specs.Table.{audioTable, lsdTable, beside, audioPlaces, lsdPlaces}
 use Rattle.modes.specs.Owners.{holds, heldBy, some, clash, overlaps}
 use Rattle.modes.specs.Numbers.{following}
@@ -20,6 +21,10 @@ use Rattle.sender.specs.Step.{blockFor, outcomeOf}
 use Rattle.sender.specs.declared.Sender.{Sender}
 use Rattle.sender.specs.declared.Answer.the-variants.{Sent, Held}
 use Rattle.sender.proofs.RangeLaws.{stays-in-range}
+use Rattle.slots.specs.declared.Due.the-variants.{Plain}
+use Rattle.reader.specs.State.{slotOf, stateInRange as readerInRange}
+use Rattle.reader.specs.declared.Reader.{Reader}
+use Rattle.lesson.specs.Demand2.{wordOf, InStep, Agrees, EightBits}
 use Rattle.lesson.specs.Session.{Turn, turned, after, run, log}
 use Rattle.lesson.specs.Demand3.{silent, AlikeTurn, Alike, MuteStaysSet, MuteGone, By}
 use Rattle.lesson.proofs.SilenceLaws.{run-allowed, silence}
@@ -114,3 +119,46 @@ least-example b = go (rw second-example at b)
     go : MuteGone (record { found = talking 1; turn = turn true 0 }) ⊎ ⊥ → ⊥
     go (inl g) = false≢true (sym (g .command))
     go (inr n) = n
+
+-- ---- demand 2: a sender about to send block 7, and a reader in step with it
+abbrev seventh : Sender
+seventh = record { chosen = audioOff; mode = mode audioOff 0; block = record { 0 = 7 }; due = 0; remainder = 0 }
+
+abbrev listening : Reader
+listening =
+    record {
+      mode = mode audioOff 0;
+      kept = mode audioOff 0;
+      wrong = 0;
+      block = record { 0 = 7 };
+      firsts = 0b001011;
+      misses = 0;
+      slot = slotOf Plain;
+      before = 1;
+      remainder = 0;
+    }
+
+in-step-example : InStep seventh listening
+unfolding readerInRange inRange audioPlaces audioTable lsdPlaces lsdTable beside overlaps clash some holds heldBy number
+in-step-example = record { placed = record { range = refl; knows = refl; place = refl; due = refl; bits = refl }; mode = refl }
+
+agrees-example : Agrees seventh listening
+agrees-example = record { before = refl; remainder = refl }
+
+-- a code is eight bits
+eight-bits-example : EightBits (muted 0)
+eight-bits-example = (omega arith, (omega arith, tt))
+
+abbrev neutral-turn : Turn
+neutral-turn =
+    record {
+      call = record { mute = false; code = neutral; a = false; e = false; t = false };
+      voice = replicate 140 0;
+      lsd = replicate 156 0;
+      line = replicate 160 0;
+    }
+
+-- neutral can be offered where no item is due, and goes as the word
+neutral-example : wordOf (record { found = seventh; turn = neutral-turn }) ≡ neutral
+unfolding ruleOf planBy
+neutral-example = refl

@@ -1,14 +1,14 @@
 -- Demand 2: octets block after block, and a reader in step stays in step and hands back what was sent.
 use mathlib.Core.Path.{_≡_, refl, sym, ap, ap₂, subst, _∙_}
 use mathlib.Core.Bool.{Bool, true, false, not, cond, false≢true}
-use mathlib.Core.List.{List, [], _∷_, _++_}
+use mathlib.Core.List.{List, [], _∷_}
 use mathlib.Core.Logic.{_⊎_, inl, inr}
-use Prim.Native.Nat.{ℕ, zero, suc, _+_, _-_, _*_, _%_, _^_, _<_, _≤_}
+use Prim.Native.Nat.{ℕ, zero, suc, _+_, _-_, _*_, _%_, _<_, _≤_}
 use native.Mathlib.Omega.{arith}
-use lib.Dec.{eqb, leb, ltb}
+use lib.Dec.{eqb, leb}
 use lib.ListN.{length}
 use borrow.Author.Tests.{eqb-true, eq-eqb, ne-eqb, leb-true}
-use Rattle.bits.specs.Bits.{digit, number, octets}
+use Rattle.bits.specs.Bits.{number}
 use Rattle.bits.specs.Crc.{blockCrcOf}
 use Rattle.bits.proofs.Every.{and-left, and-right}
 use Rattle.bits.proofs.PackLaws.{length-octets}
@@ -33,15 +33,14 @@ use Rattle.frame.specs.Channel.{wrongBits, oddFirst, cBits, basWord}
 use Rattle.frame.specs.declared.Header.{Header}
 use Rattle.frame.proofs.HeaderLaws.{oddBit, right-alignment, first-bit-back, remainder-back, code-back}
 use Rattle.sender.specs.State.{itemDue}
-use Rattle.sender.specs.Rules.{ruleOf}
 use Rattle.sender.specs.Plans.{dueNumber, planBy}
 use Rattle.sender.specs.Refusals.{goesAsItem}
-use Rattle.sender.specs.Step.{headerFor, blockFor, nextBy}
+use Rattle.sender.specs.Step.{headerFor, blockFor}
 use Rattle.sender.specs.declared.Sender.{Sender}
 use Rattle.sender.specs.declared.Plan.{Plan}
 use Rattle.sender.specs.declared.Rule.{Rule}
 use Rattle.sender.proofs.RangeLaws as sending
-use Rattle.reader.specs.State.{block, known, slotOf, dueOf}
+use Rattle.reader.specs.State.{block, known, dueOf}
 use Rattle.reader.specs.Signs.{signsOf}
 use Rattle.reader.specs.Parts as parts
 use Rattle.reader.specs.Parts.{placeAfter}
@@ -59,10 +58,10 @@ use Rattle.reader.proofs.OutcomeLaws.{takes, told-taken}
 use Rattle.reader.proofs.RangeLaws.{due-back, step-in-range}
 use Rattle.sorter.specs.Sorting.{sortedOf}
 use Rattle.sorter.proofs.RoundLaws.{voice-bits-back, lsd-back}
-use Rattle.lesson.specs.Session.{Turn, turned, after, Entry, log, blockSent}
+use Rattle.lesson.specs.Session.{Turn, after, Entry, log, blockSent}
 use Rattle.lesson.specs.Demand2.{wordOf, LaidDown, GoesOn, BlockAfterBlock, OctetsLaidDown, wordDue, lastSix, KeptAsSent, Placed, InStep, Agrees, readerAfter, HandedBack, Back, AllBack, StaysInStep, JoinsAtNeutral}
 use Rattle.lesson.proofs.TurnLaws.{Stayed, Went, turn-cases, log-stayed, log-went}
-use Rattle.lesson.proofs.WordLaws.{rule-due, Sends, plain-carried, word-small, plan-mode, plan-due, mode-follows, due-after-same}
+use Rattle.lesson.proofs.WordLaws.{rule-due, Sends, word-small, plan-mode, plan-due, mode-follows, due-after-same}
 
 -- ---- the eight blocks of a multiframe
 pub each : (P : ℕ → Type 0) → P 1 → P 2 → P 3 → P 4 → P 5 → P 6 → P 7 → P 8 → (b : ℕ) → 1 ≤ b → b ≤ 8 → P b

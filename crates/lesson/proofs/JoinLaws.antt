@@ -10,20 +10,18 @@ use lib.ListN.{length}
 use borrow.Author.Tests.{eqb-true, leb-true, not-true}
 use Rattle.bits.specs.Bits.{number}
 use Rattle.bits.proofs.Every.{and-left, and-right}
-use Rattle.modes.specs.Codes.{audioOff, lsdOff}
 use Rattle.modes.specs.Numbers.{following}
 use Rattle.modes.specs.Commands.{mode}
 use Rattle.modes.specs.declared.BlockNumber.{BlockNumber}
 use Rattle.slots.specs.Slots.{standing}
 use Rattle.slots.specs.Readings.{obeyed}
-use Rattle.slots.specs.declared.Due.{Due}
 use Rattle.slots.specs.declared.Due.the-variants.{Plain, AnItem}
 use Rattle.sender.specs.State as sending
 use Rattle.sender.specs.State.{itemDue}
 use Rattle.sender.specs.declared.Sender.{Sender}
 use Rattle.sender.specs.declared.Rule.{Rule}
 use Rattle.sender.proofs.RangeLaws.{kept}
-use Rattle.reader.specs.State.{block, unknown, known, slotOf, dueOf, stateInRange, freshIn}
+use Rattle.reader.specs.State.{block, unknown, known, slotOf, dueOf, stateInRange}
 use Rattle.reader.specs.Parts as parts
 use Rattle.reader.specs.Parts.{placeAfter}
 use Rattle.reader.specs.Step.{nextOf}
@@ -32,9 +30,9 @@ use Rattle.reader.specs.declared.Slot.{Slot}
 use Rattle.reader.specs.declared.Stepped.{Stepped}
 use Rattle.reader.proofs.RangeLaws.{fresh-in-range, step-in-range}
 use Rattle.lesson.specs.Session.{Turn, after, Entry, log, blockSent}
-use Rattle.lesson.specs.Demand2.{wordDue, KeptAsSent, Placed, InStep, readerAfter, EightBits, Waits, FreshWaits, untilSix, senderOn, readerOn, ComesIntoStep}
+use Rattle.lesson.specs.Demand2.{KeptAsSent, Placed, InStep, readerAfter, EightBits, FreshWaits, untilSix, senderOn, readerOn, ComesIntoStep}
 use Rattle.lesson.proofs.TurnLaws.{Stayed, Went, turn-cases, log-stayed, log-went}
-use Rattle.lesson.proofs.InStepLaws.{each, bitOf, entry, shown, stepped}
+use Rattle.lesson.proofs.InStepLaws.{each, bitOf, shown, stepped}
 
 pub fresh-waits : FreshWaits
 fresh-waits = record { range = fresh-in-range; place = refl; due = refl; bits = refl }

@@ -5,5 +5,7 @@ pub mod InStepLaws
 pub mod JoinLaws
 pub mod SilenceLaws
 pub mod MuteLaws
+pub mod HeardLaws
 pub mod FigureLaws
+pub mod EnoughLaws
 pub mod Examples

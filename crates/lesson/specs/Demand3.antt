@@ -13,6 +13,10 @@ use Rattle.sender.specs.declared.Sender.{Sender}
 use Rattle.sender.specs.declared.Call.{Call}
 use Rattle.sender.specs.declared.Rule.the-variants.{MuteOff}
 use Rattle.sender.specs.declared.Answer.the-variants.{Held}
+use Rattle.slots.specs.declared.Reading.the-variants.{Mended}
+use Rattle.reader.specs.declared.Reader.{Reader}
+use Rattle.reader.specs.declared.Outcome.{Outcome}
+use Rattle.lesson.specs.Demand2.{InStep, readerAfter, HandedBack, EightBits}
 use Rattle.lesson.specs.Session.{Turn, Left, turned, after, Allowed, Entry, log}
 
 -- a block is silent when mute is set in its call or no audio is in force as that call finds it
@@ -60,3 +64,17 @@ By (suc n) P (e ∷ es) = P e ⊎ By n P es
 -- if audio is in force when mute is first set and mute stays set, it has by the second accepted call
 abbrev pub MuteBound : Type 0
 MuteBound = (s : Sender) (xs : List Turn) → sounding s ≡ true → MuteStaysSet xs → By 2 MuteGone (log s xs)
+
+-- where a reader in step reads it: as the command "audio off", which closes the stream
+pub record MuteHeard (e : Entry) (r : Reader) : Type 0 where
+  pub gone : MuteGone e
+  pub read : (o : Outcome) (v d : List ℕ) (back : HandedBack e r o v d) → back .report .reading ≡ Mended (written audioAttribute audioOff)
+  pub closed : (readerAfter r e) .mode .audio ≡ audioOff
+
+abbrev pub HeardBy : ℕ → Reader → List Entry → Type 0
+HeardBy zero r es = ⊥
+HeardBy (suc n) r [] = Unit {0}
+HeardBy (suc n) r (e ∷ es) = MuteHeard e r ⊎ HeardBy n (readerAfter r e) es
+
+abbrev pub MuteIsHeard : Type 0
+MuteIsHeard = (s : Sender) (r : Reader) (xs : List Turn) → sounding s ≡ true → MuteStaysSet xs → EightBits xs → InStep s r → HeardBy 2 r (log s xs)

@@ -1,14 +1,14 @@
 -- A call on a state in range leaves one in range; and a preset that is written reads back.
 use mathlib.Core.Path.{_≡_, refl, ap, _∙_}
-use mathlib.Core.Bool.{Bool, true, false, cond, _&&_, _||_, or-true}
+use mathlib.Core.Bool.{Bool, true, false, _&&_, _||_, or-true}
 use mathlib.Core.List.{List}
-use Prim.Native.Nat.{ℕ, _+_, _%_, _<_}
+use Prim.Native.Nat.{ℕ, _%_, _<_}
 use native.Mathlib.Omega.{arith}
-use lib.Dec.{eqb, leb, ltb}
-use borrow.Author.Tests.{ltb-true, le-leb, eq-eqb}
+use lib.Dec.{eqb, leb}
+use borrow.Author.Tests.{eq-eqb}
 use lib.ListN.{length}
 use Rattle.bits.proofs.CrcLaws.{crc-low}
-use Rattle.bits.proofs.Every.{and-left, and-right, and-make}
+use Rattle.bits.proofs.Every.{and-left, and-right}
 use Rattle.modes.specs.Codes.{value, lsdAttribute, audioOff, written}
 use Rattle.modes.specs.Owners.{within, overlaps}
 use Rattle.modes.specs.Commands.{mode, inRange, commandOf, offered}

@@ -1,6 +1,6 @@
 -- `frame::bits_at` meets its contract: a run of eight bits at most lies within two octets.
 use mathlib.Core.Path.{sym, ap, _∙_}
-use Prim.Native.Nat.{_-_, _≤_}
+use Prim.Native.Nat.{_≤_}
 use native.Mathlib.Omega.{arith}
 use Rattle.bits.specs.Bits.{bitsOf, number}
 use denote.Ref.{now}

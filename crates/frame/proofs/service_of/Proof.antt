@@ -1,6 +1,6 @@
 -- `frame::service_of` meets its contract: the law of service bits, at what its callees ensure.
 use mathlib.Core.Path.{ap, _∙_}
-use Prim.Native.Nat.{ℕ, _-_}
+use Prim.Native.Nat.{ℕ}
 use native.Mathlib.Omega.{arith}
 use Rattle.bits.specs.Bits.{lowBits, number}
 use Rattle.bas.specs.Words.{lineOrder}

@@ -2,7 +2,7 @@
 use mathlib.Core.Path.{_≡_, ap, _∙_}
 use mathlib.Core.Bool.{Bool}
 use mathlib.Core.List.{List, _++_}
-use Prim.Native.Nat.{_+_, _-_, _<_}
+use Prim.Native.Nat.{_+_, _<_}
 use lib.ListN.{length}
 use Rattle.bits.specs.Bits.{octetBits}
 use Rattle.bits.proofs.BitLaws.{lowBits-two, lowBits-back}

@@ -1,15 +1,14 @@
 -- `frame::write_block` meets its contract: by whether the lengths fit, and by the block's law.
-use mathlib.Core.Path.{_≡_, refl, sym, ap, ap₂, _∙_, subst}
-use mathlib.Core.Bool.{Bool, true, false, cond}
+use mathlib.Core.Path.{sym, ap₂, _∙_}
+use mathlib.Core.Bool.{Bool, true, false}
 use mathlib.Core.List.{List, _++_}
-use Prim.Native.Nat.{ℕ, zero, suc, _+_, _-_, _*_, _/_, _%_, _^_, _<_, _≤_, min}
+use Prim.Native.Nat.{_+_}
 use native.Mathlib.Omega.{arith}
 use borrow.Author.Tests.{not-true, not-false}
 use denote.Ref.{now}
-use lib.ListN.{length}
 use Rattle.bits.specs.Bits.{bitsOf, octets}
 use Rattle.frame.specs.Streams.{fill}
-use Rattle.frame.specs.Block.{fitting, heard, streams}
+use Rattle.frame.specs.Block.{heard, streams}
 use Rattle.frame.specs.Layout.{rowsBy}
 use Rattle.frame.specs.declared.Layout.{Layout}
 use Rattle.frame.proofs.BlockLaws.{lengths, told, block-is}

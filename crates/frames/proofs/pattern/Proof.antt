@@ -1,5 +1,5 @@
 -- `frames::pattern` is safe and ends: its counter goes up to the buffer's length, which stays.
-use Prim.Native.Nat.{_-_, _≤_}
+use Prim.Native.Nat.{_-_}
 use mathlib.Core.Path.{_≡_, refl}
 use native.Mathlib.Omega.{arith}
 use lib.ListN.{length, length-set}

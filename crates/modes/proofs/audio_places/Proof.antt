@@ -1,6 +1,6 @@
 -- `modes::audio_places` meets its contract: the source's table is that of the definition's entries, which antt computes.
 use mathlib.Core.Path.{sym}
-use Prim.Native.Nat.{_-_, _<_}
+use Prim.Native.Nat.{_<_}
 use Rattle.bits.proofs.Table.{entry}
 use Rattle.modes.specs.Table.{audioTable, beside, audioPlaces}
 use Rattle.modes.proofs.TableLaws.{audio-past, audioEntry, audio-listed, audio-not-listed}

@@ -1,6 +1,5 @@
 -- `modes::bits_per_frame` meets its contract: the two ranges, whose bounds the table keeps, are counted apart.
 use mathlib.Core.Path.{sym, ap, _∙_, subst⁻¹}
-use Prim.Native.Nat.{_-_}
 use native.Mathlib.Omega.{arith}
 use Rattle.modes.specs.Owners.{bitsPerFrame}
 use Rattle.modes.proofs.TableLaws.{Fit, held-fit}

@@ -1,6 +1,5 @@
 -- `modes::even_frame` meets its contract: block 0, which is none, is taken as block 1.
 use mathlib.Core.Path.{refl}
-use Prim.Native.Nat.{_-_}
 use Rattle.modes.specs.Numbers.{evenFrame}
 use borrow.Author.Needs.{needs}
 use Rattle.modes.proofs.even_frame.Statement.{statement}

@@ -1,7 +1,7 @@
 -- `modes::lsd_places` meets its contract: the source's table is that of the definition's entries, which antt computes.
 use mathlib.Core.Path.{sym, ap, _∙_}
 use mathlib.Core.List.{List, []}
-use Prim.Native.Nat.{ℕ, _-_, _<_}
+use Prim.Native.Nat.{ℕ, _<_}
 use lib.ListN.{getD}
 use Rattle.bits.proofs.Table.{entry}
 use Rattle.modes.specs.Table.{lsdTable, beside, bitsAndSc, lsdPlaces}

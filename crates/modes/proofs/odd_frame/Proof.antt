@@ -1,5 +1,4 @@
 -- `modes::odd_frame` meets its contract: one more than the even frame.
-use Prim.Native.Nat.{_-_}
 use native.Mathlib.Omega.{arith}
 use Rattle.modes.specs.Numbers.{evenFrame, oddFrame}
 use borrow.Author.Needs.{needs}

@@ -1,7 +1,7 @@
 -- `modes::owner_of` meets its contract: the first of the three that holds the place.
 use mathlib.Core.Path.{_≡_, sym, ap, _∙_}
 use mathlib.Core.Bool.{Bool}
-use Prim.Native.Nat.{ℕ, _-_}
+use Prim.Native.Nat.{ℕ}
 use Rattle.modes.specs.Owners.{holds, ownerOf}
 use Rattle.modes.specs.declared.Places.{Places}
 use borrow.Author.Needs.{needs}

@@ -1,6 +1,6 @@
 -- `session::lent` is safe: no part ends past its buffer.
 use native.Mathlib.Omega.{arith}
-use lib.ListN.{length, take, length-take}
+use lib.ListN.{length-take}
 use borrow.Author.Needs.{needs}
 use Rattle.session.proofs.lent.Statement.{statement}
 use Rattle.session.proofs.lent.Tie as tie
