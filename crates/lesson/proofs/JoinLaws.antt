@@ -30,7 +30,7 @@ use Rattle.reader.specs.declared.Slot.{Slot}
 use Rattle.reader.specs.declared.Stepped.{Stepped}
 use Rattle.reader.proofs.RangeLaws.{fresh-in-range, step-in-range}
 use Rattle.lesson.specs.Session.{Turn, after, Entry, log, blockSent}
-use Rattle.lesson.specs.Demand2.{KeptAsSent, Placed, InStep, readerAfter, EightBits, FreshWaits, untilSix, senderOn, readerOn, ComesIntoStep}
+use Rattle.lesson.specs.Demand2.{KeptAsSent, Placed, InStep, readerAfter, EightBits, FreshWaits, untilSix, senderOn, readerOn, FindsPlace, ComesIntoStep}
 use Rattle.lesson.proofs.TurnLaws.{Stayed, Went, turn-cases, log-stayed, log-went}
 use Rattle.lesson.proofs.InStepLaws.{each, bitOf, shown, stepped}
 
@@ -109,7 +109,7 @@ module _ (s : Sender) (x : Turn) (rule : Rule) (w : Went s x rule) (small : x .c
 -- ---- over a session
 abbrev Joins : ℕ → Sender → Reader → List Entry → Type 0
 Joins n s r es =
-    n ≤ length es → (senderOn n s es) .mode ≡ r .mode → itemDue (senderOn n s es) ≡ false → InStep (senderOn n s es) (readerOn n r es)
+    n ≤ length es → itemDue (senderOn n s es) ≡ false → Placed (senderOn n s es) (readerOn n r es) × ((readerOn n r es) .mode ≡ r .mode)
 
 module _ (s : Sender) (x : Turn) (rule : Rule) (w : Went s x rule) (small : x .call .code < 256) (r : Reader) (f : ℕ) (k : Seeks r f)
     (es : List Entry) where
@@ -118,23 +118,24 @@ module _ (s : Sender) (x : Turn) (rule : Rule) (w : Went s x rule) (small : x .c
 
   -- the block was the last one wanted
   last-block : foundAt 1 (s .block .0) f ≡ true → Joins 1 s r (one ∷ es)
-  last-block e many same none =
+  last-block e many none =
       let six = eqb-true (s .block .0) 6 (and-left (eqb (s .block .0) 6) (parts.spelled (on (s .block .0) f)) e) in
       let right = and-right (eqb (s .block .0) 6) (parts.spelled (on (s .block .0) f)) e in
-      record { placed = finds s x rule w small r f k six right none; mode = mode-on s x rule w small r f k ∙ sym same }
+      (finds s x rule w small r f k six right none, mode-on s x rule w small r f k)
 
   -- or more are to come
   more-blocks : (n : ℕ) → foundAt (suc (suc n)) (s .block .0) f ≡ true
       → (Seeks (readerAfter r one) (on (s .block .0) f) → foundAt (suc n) (after s x .block .0) (on (s .block .0) f) ≡ true → Joins (suc n) (after s x) (readerAfter r one) es)
       → Joins (suc (suc n)) s r (one ∷ es)
-  more-blocks n e later many same none =
+  more-blocks n e later many none =
       let spelled = parts.spelled (on (s .block .0) f) in
       let rest = foundAt (suc n) ((following (s .block)) .0) (on (s .block .0) f) in
       let wrong = not-true spelled (and-left (not spelled) rest e) in
       let number-on = ap (λ (q : Sender). q .block) (w .state) in
-      later (seeks-on s x rule w small r f k wrong)
+      let found = later (seeks-on s x rule w small r f k wrong)
       (ap (λ (q : BlockNumber). foundAt (suc n) (q .0) (on (s .block .0) f)) number-on ∙ and-right (not spelled) rest e)
-      (omega arith) (same ∙ sym (mode-on s x rule w small r f k)) none
+      (omega arith) none in
+      (found .0, found .1 ∙ mode-on s x rule w small r f k)
 
   -- by how many are wanted
   one-more : (n : ℕ) → foundAt n (s .block .0) f ≡ true
@@ -158,11 +159,16 @@ joins (x ∷ xs) n s r f bits k e =
         subst (Joins n s r) (sym (log-went s x xs rule w))
         (one-more s x rule w (bits .0) r f k (log (after s x) xs) n e (λ m kq eq. later m _ _ kq eq))
 
-pub comes-into-step : ComesIntoStep
-comes-into-step s r xs range bits wait =
+pub finds-place : FindsPlace
+finds-place s r xs range bits wait =
     let b = s .block .0 in
     let within = kept s range .block in
     let lo = leb-true 1 b (and-left (leb 1 b) (leb b 8) within) in
     let hi = leb-true b 8 (and-right (leb 1 b) (leb b 8) within) in
     let k : Seeks r 63 = record { range = wait .range; place = wait .place; due = wait .due; bits = wait .bits } in
     joins xs (untilSix b) s r 63 bits k (found-in-time b lo hi)
+
+pub comes-into-step : ComesIntoStep
+comes-into-step s r xs range bits wait many none same =
+    let found = finds-place s r xs range bits wait many none in
+    record { placed = found .0; mode = found .1 ∙ sym same }

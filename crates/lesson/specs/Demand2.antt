@@ -78,6 +78,7 @@ sentSince block = take (block - 1) (false ∷ false ∷ true ∷ false ∷ true 
 abbrev pub lastSix : List Bool → List Bool
 lastSix bits = drop (length bits - 6) bits
 
+-- the reader keeps first bits as a number: so many of its low bits spell those that were sent
 abbrev pub KeptAsSent : ℕ → ℕ → Type 0
 KeptAsSent block firsts = firsts % 2 ^ length (lastSix (sentSince block)) ≡ number (lastSix (sentSince block))
 
@@ -178,14 +179,22 @@ readerOn zero r es = r
 readerOn (suc n) r [] = r
 readerOn (suc n) r (e ∷ es) = readerOn n (readerAfter r e) es
 
--- a reader that begins to read at any block knows its place after so many, and is in step with the sender if it missed no command and
--- no item is due
+-- a reader that begins to read at any block knows its place after so many, where no item is due then; its mode is still the one that it
+-- began with, since it read no word
+abbrev pub FindsPlace : Type 0
+FindsPlace = (s : Sender) (r : Reader) (xs : List Turn) → sending.stateInRange s ≡ true → EightBits xs → Waits r
+    → (let n = untilSix (s .block .0) in
+    let s₁ = senderOn n s (log s xs) in
+    let r₁ = readerOn n r (log s xs) in
+    n ≤ length (log s xs) → itemDue s₁ ≡ false → Placed s₁ r₁ × (r₁ .mode ≡ r .mode))
+
+-- so it is in step if it missed no command
 abbrev pub ComesIntoStep : Type 0
 ComesIntoStep = (s : Sender) (r : Reader) (xs : List Turn) → sending.stateInRange s ≡ true → EightBits xs → Waits r
     → (let n = untilSix (s .block .0) in
     let s₁ = senderOn n s (log s xs) in
     let r₁ = readerOn n r (log s xs) in
-    n ≤ length (log s xs) → s₁ .mode ≡ r .mode → itemDue s₁ ≡ false → InStep s₁ r₁)
+    n ≤ length (log s xs) → itemDue s₁ ≡ false → s₁ .mode ≡ r .mode → InStep s₁ r₁)
 
 -- and one that missed commands is in step after neutral
 abbrev pub JoinsAtNeutral : Type 0
