@@ -1,10 +1,24 @@
 // A short lesson, told block by block: voice on, page cues on, mute pressed where an escape has made the next word an item, mute held,
-// mute released.
+// mute released. Every block goes into a recording, which is listed at the end as the far end reads it.
+ghost use Prim.Native.Nat.{_+_, _^_, _≤_, _<_};
+ghost use lib.ListN.{length};
 use libc::STDOUT_FILENO;
 use sender::Answer;
 use sender::Call;
 use sender::Outcome;
 use sender::Sender;
+
+// How far the lesson is: the state that the next call finds, and how many octets are recorded.
+struct Lesson {
+    state: Sender,
+    end: usize,
+}
+
+// What became of a call, and the lesson after it.
+struct Made {
+    answer: Answer,
+    lesson: Lesson,
+}
 
 fn text(s: &[u8]) {
     io::write_all(STDOUT_FILENO, s);
@@ -90,47 +104,151 @@ fn tell_line(answer: Answer, line: &[u8]) {
     tell_word(line);
 }
 
-fn framed(state: Sender, call: Call) -> Outcome {
-    let mut line = [0u8; 160];
+// The call, with the same voice and data each time.
+fn framed(state: Sender, call: Call, line: &mut [u8]) -> Outcome {
     let voice = [85u8; 140];
     let lsd = [51u8; 156];
-    let outcome = sender::send(state, call, &voice, &lsd, &mut line);
-    let answer = outcome.answer;
-    let mute = call.mute;
-    tell_answer(answer, state, mute);
-    tell_line(answer, &line);
-    outcome
+    sender::send(state, call, &voice, &lsd, line)
 }
 
-// One call, told; the state that the next one finds.
-fn step(state: Sender, mute: bool, code: u8) -> Sender {
-    let call = Call {
+// Where the recording ends after a call: a refused one takes no place.
+fn end_after(answer: Answer, end: usize) -> usize
+    requires { ⌜ end + 160 < 2 ^ 63 ⌝ }
+    ensures { λ r. ⌜ r ≤ end + 160 ⌝ }
+{
+    match answer {
+        Answer::Sent => end + 160,
+        Answer::Held => end + 160,
+        Answer::Refused(_) => end,
+    }
+}
+
+// One call, its block written where the recording ends.
+fn recorded(recording: &mut [u8], found: Lesson, call: Call) -> Made
+    requires { ⌜ found .end + 160 ≤ length (now recording) ⌝ }
+    ensures { λ r. ⌜ r .lesson .end ≤ found .end + 160 ⌝ }
+{
+    let end = found.end;
+    let state = found.state;
+    let outcome = framed(state, call, &mut recording[end..end + 160]);
+    let answer = outcome.answer;
+    let next = outcome.state;
+    let lesson = Lesson {
+        state: next,
+        end: end_after(answer, end),
+    };
+    Made {
+        answer: answer,
+        lesson: lesson,
+    }
+}
+
+fn call_of(mute: bool, code: u8) -> Call {
+    Call {
         mute: mute,
         code: code,
         a: false,
         e: false,
         t: false,
-    };
+    }
+}
+
+// A call told: what it found, what became of it, and its 160 octets of the recording.
+fn tell(found: Sender, call: Call, answer: Answer, line: &[u8]) {
+    let mute = call.mute;
     text(b"block ");
-    decimal(state.block.0 as u64);
+    decimal(found.block.0 as u64);
     text(b" of 8: ");
     tell_call(call);
-    let outcome = framed(state, call);
+    tell_answer(answer, found, mute);
+    tell_line(answer, line);
     text(b"; ");
-    tell_voice(state, mute);
+    tell_voice(found, mute);
     text(b"\n");
-    outcome.state
+}
+
+// One call, made and told.
+fn step(recording: &mut [u8], found: Lesson, mute: bool, code: u8) -> Lesson
+    requires { ⌜ found .end + 160 ≤ length (now recording) ⌝ }
+    ensures { λ r. ⌜ r .end ≤ found .end + 160 ⌝ }
+{
+    let end = found.end;
+    let state = found.state;
+    let call = call_of(mute, code);
+    let after = recorded(recording, found, call);
+    let answer = after.answer;
+    let lesson = after.lesson;
+    tell(state, call, answer, &recording[end..end + 160]);
+    lesson
+}
+
+// Six blocks in which a code that changes no mode is offered. Their first bits tell a reader its place in the multiframe.
+fn quiet(recording: &mut [u8], begun: Lesson) -> Lesson
+    requires { ⌜ begun .end + 960 ≤ length (now recording) ⌝ }
+    ensures { λ r. ⌜ r .end ≤ begun .end + 960 ⌝ }
+{
+    let mut lesson = begun;
+    for i in 0..6usize {
+        let after = recorded(recording, lesson, call_of(false, 0x80));
+        let next = after.lesson;
+        lesson = next;
+    }
+    text(b"blocks 1 to 6 of 8: quiet, so that the far end finds its place\n");
+    lesson
+}
+
+// Voice goes on, then page cues beside it; then an escape makes the next word an item.
+fn opened(recording: &mut [u8], ready: Lesson) -> Lesson
+    requires { ⌜ ready .end + 480 ≤ length (now recording) ⌝ }
+    ensures { λ r. ⌜ r .end ≤ ready .end + 480 ⌝ }
+{
+    let voice = step(recording, ready, false, 0x14);
+    let cues = step(recording, voice, false, 0x65);
+    step(recording, cues, false, 0xF0)
+}
+
+// Mute is pressed on the item, and held.
+fn muted(recording: &mut [u8], found: Lesson) -> Lesson
+    requires { ⌜ found .end + 480 ≤ length (now recording) ⌝ }
+    ensures { λ r. ⌜ r .end ≤ found .end + 480 ⌝ }
+{
+    let item = step(recording, found, true, 0x25);
+    let off = step(recording, item, true, 0x80);
+    step(recording, off, true, 0x80)
+}
+
+// An audio command is refused while mute is set; then mute is released.
+fn released(recording: &mut [u8], found: Lesson) -> Lesson
+    requires { ⌜ found .end + 480 ≤ length (now recording) ⌝ }
+    ensures { λ r. ⌜ r .end ≤ found .end + 480 ⌝ }
+{
+    let refused = step(recording, found, true, 0x14);
+    let again = step(recording, refused, false, 0x80);
+    step(recording, again, false, 0x80)
+}
+
+// What the far end makes of the recording.
+fn listed(recording: &[u8]) {
+    let mut listing = [0u8; 1024];
+    let end = lines::list(recording, &mut listing);
+    if end <= 1024 {
+        text(&listing[..end]);
+    }
 }
 
 fn main() {
+    // Room for the fifteen blocks that fifteen calls write at most.
+    let mut recording = [0u8; 2400];
     let fresh = sender::fresh();
-    let voice = step(fresh, false, 0x14);
-    let cues = step(voice, false, 0x65);
-    let escape = step(cues, false, 0xF0);
-    let pressed = step(escape, true, 0x25);
-    let off = step(pressed, true, 0x80);
-    let silent = step(off, true, 0x80);
-    let refused = step(silent, true, 0x14);
-    let released = step(refused, false, 0x80);
-    step(released, false, 0x80);
+    let begun = Lesson {
+        state: fresh,
+        end: 0,
+    };
+    let ready = quiet(&mut recording, begun);
+    let open = opened(&mut recording, ready);
+    let silent = muted(&mut recording, open);
+    let done = released(&mut recording, silent);
+    let end = done.end;
+    text(b"the lesson, listed:\n");
+    listed(&recording[..end]);
 }
