@@ -5,23 +5,36 @@ use mathlib.Core.List.{List, [], _++_, append-nil, append-assoc}
 use Prim.Native.Nat.{ℕ, zero, suc, _+_, _*_, _-_, _≤_, _<_}
 use native.Mathlib.Omega.{arith}
 use lib.Dec.{ltb}
-use lib.ListN.{length}
+use lib.ListN.{length, length-append}
 use borrow.Author.Tests.{ltb-false}
 use Rattle.bits.specs.Bits.{digit}
+use Rattle.slots.specs.declared.Reading.{Reading}
+use Rattle.slots.specs.declared.Reading.the-variants.{Mended, Item, MessageWord, ForbiddenItem, NotFollowed, Unreadable, NotRead}
 use Rattle.text.specs.Over.{Written}
-use Rattle.text.proofs.OverLaws.{written-none, written-then}
+use Rattle.text.specs.Digits.{hexOf}
+use Rattle.text.specs.Words.{textOf}
+use Rattle.text.proofs.Decimal.{decimal-three, decimal-five}
+use Rattle.text.proofs.OverLaws.{written-none, written-then, written-length}
 use Rattle.reader.specs.State.{stateInRange}
 use Rattle.reader.specs.declared.Reader.{Reader}
+use Rattle.reader.specs.declared.Report.{Report}
+use Rattle.reader.specs.declared.Standing.{Standing}
+use Rattle.reader.specs.declared.Standing.the-variants.{Waiting, Read, Lost}
+use Rattle.reader.specs.declared.Verdict.{Verdict}
+use Rattle.reader.specs.declared.Verdict.the-variants.{None, Good, Bad}
 use Rattle.reader.proofs.RangeLaws.{fresh-in-range}
+use Rattle.search.specs.Finding as finding
 use Rattle.search.specs.Finding.{searchOf}
+use Rattle.search.specs.declared.Refusal.{Refusal}
+use Rattle.search.specs.declared.Refusal.the-variants.{RecordingLength, NoPlace}
 use Rattle.search.specs.declared.Found.{Found}
-use Rattle.search.proofs.PlaceLaws.{found-fits}
+use Rattle.search.proofs.PlaceLaws.{found-fits, found-small}
 use Rattle.recording.specs.Walk.{leftFrom, readAt, blockRead, foundAgain, answerHere, isLost, placeBy, lostBy, readerBy, steppedBy}
 use Rattle.recording.specs.declared.Answer.{Answer}
 use Rattle.recording.specs.declared.Answer.the-variants.{Block, Place, End, Refused}
 use Rattle.recording.specs.declared.Stepped.{Stepped}
 use Rattle.recording.proofs.StepLaws.{reader-in-range, place-inside}
-use Rattle.lines.specs.Listing.{numberLine, blockLine, lineOf, isLast, countAfter, linesFrom, begun, listingOf}
+use Rattle.lines.specs.Listing.{numberLine, standingText, verdictText, codeText, blockLine, lineOf, isLast, countAfter, linesFrom, begun, listingBy, listingOf}
 
 -- ---- one step more: what was written, its line, and the lines to come
 module _ (recording : List ℕ) (place : ℕ) (lost : Bool) (s : Reader) (count n : ℕ) (done total : List ℕ) (a : Answer)
@@ -168,3 +181,106 @@ unfolding listingOf
 listing-ends recording p e =
     let f = found-fits recording 0 p e in
     rw e (ends-after (numberLine "found " p) _ (enough recording (length recording) p false begun 0 (omega (arith, f .2)) (omega (arith, f .2))))
+
+-- ---- how long a listing is: 20 octets for a block of 160, and 12 for a place found after a lost one
+standing-length : (q : Standing) → length (standingText q) ≤ 7
+unfolding textOf
+standing-length Waiting = omega arith
+standing-length Read = omega arith
+standing-length Lost = omega arith
+
+verdict-length : (v : Verdict) → length (verdictText v) ≤ 4
+unfolding textOf
+verdict-length None = omega arith
+verdict-length Good = omega arith
+verdict-length Bad = omega arith
+
+code-length : (r : Reading) → length (codeText r) ≤ 2
+unfolding textOf hexOf
+code-length (Mended code) = omega arith
+code-length (Item code) = omega arith
+code-length (MessageWord code) = omega arith
+code-length (ForbiddenItem code) = omega arith
+code-length (NotFollowed code) = omega arith
+code-length Unreadable = omega arith
+code-length NotRead = omega arith
+
+block-length : (count : ℕ) (report : Report) → count < 1000 → length (blockLine count report) ≤ 20
+unfolding blockLine textOf
+block-length count report h =
+    simp length-append
+    (omega (arith, decimal-three count h, standing-length (report .standing), verdict-length (report .verdict), code-length (report .reading)))
+
+found-length : (p : ℕ) → p < 100000 → length (numberLine "found " p) ≤ 12
+unfolding textOf
+found-length p h = simp length-append (omega (arith, decimal-five p h))
+
+left-length : (n : ℕ) → n < 100000 → length (numberLine "left " n) ≤ 11
+unfolding textOf
+left-length n h = simp length-append (omega (arith, decimal-five n h))
+
+-- so the lines of a walk from a place on take a fifth of the octets left, and a little more
+abbrev Short : List ℕ → ℕ → Type 0
+Short recording n =
+    (place : ℕ) (lost : Bool) (s : Reader) (count : ℕ) → place ≤ length recording → count * 160 ≤ place
+    → 5 * length (linesFrom n recording place lost s count) + place ≤ length recording + 60 * digit lost + 60
+
+module _ (recording : List ℕ) (small : length recording ≤ 65536) (n : ℕ) (shorter : Short recording n) (place : ℕ) (s : Reader) (count : ℕ)
+    (h : place ≤ length recording) (low : count * 160 ≤ place) where
+  abbrev Taken : Bool → Answer → ℕ
+  Taken lost a =
+      length (lineOf a count ++ cond (isLast a) [] (linesFrom n recording (placeBy a place) (lostBy a lost) (readerBy a recording place s) (countAfter a count)))
+
+  end-short : length (numberLine "left " (leftFrom recording place) ++ []) ≤ 11
+  end-short = rw (append-nil (numberLine "left " (leftFrom recording place))) (left-length (leftFrom recording place) (omega arith))
+
+  found-short : (f : Found) → searchOf recording place ≡ f
+      → 5 * Taken true (foundAgain f (leftFrom recording place)) + place ≤ length recording + 60 * digit true + 60
+  found-short (Found.Place p) e =
+      let f = found-fits recording place p e in
+      let rest = shorter p false s count (omega (arith, f .2)) (omega (arith, f .1)) in
+      rw (length-append (numberLine "found " p) (linesFrom n recording p false s count))
+      (omega (arith, found-length p (omega (arith, f .2)), rest, f .1))
+  found-short (Found.Refused why) e = omega (arith, end-short)
+
+  block-short : (b : Bool) → ltb (leftFrom recording place) 160 ≡ b
+      → 5 * Taken false (cond b (End (leftFrom recording place)) (blockRead s recording place)) + place ≤ length recording + 60 * digit false + 60
+  block-short true e = omega (arith, end-short)
+  block-short false e =
+      let l = ltb-false (leftFrom recording place) 160 e in
+      let p = readAt s recording place in
+      let rest = shorter (place + 160) (isLost (p .report)) (p .state) (count + 1) (omega arith) (omega arith) in
+      rw (length-append (blockLine count (p .report)) (linesFrom n recording (place + 160) (isLost (p .report)) (p .state) (count + 1)))
+      (omega (arith, block-length count (p .report) (omega arith), rest, digit-low (isLost (p .report))))
+
+short : (recording : List ℕ) → length recording ≤ 65536 → (n : ℕ) → Short recording n
+unfolding linesFrom
+short recording small zero place lost s count h low = omega arith
+short recording small (suc n) place true s count h low =
+    found-short recording small n (short recording small n) place s count h low (searchOf recording place) refl
+short recording small (suc n) place false s count h low =
+    block-short recording small n (short recording small n) place s count h low (ltb (leftFrom recording place) 160) refl
+
+none-length : (n : ℕ) → n < 100000 → length (numberLine "none " n) ≤ 11
+unfolding textOf
+none-length n h = simp length-append (omega (arith, decimal-five n h))
+
+refusal-small : (why : Refusal) → finding.numberOf why < 100000
+refusal-small RecordingLength = omega arith
+refusal-small NoPlace = omega arith
+
+-- every listing fits into 16,384 octets
+pub listing-fits : (recording : List ℕ) → length (listingOf recording) ≤ 16384
+unfolding listingOf
+listing-fits recording = go (searchOf recording 0) refl
+  where
+    go : (f : Found) → searchOf recording 0 ≡ f → length (listingBy f recording) ≤ 16384
+    go (Found.Place p) e =
+        let f = found-fits recording 0 p e in
+        let small = found-small recording 0 p e in
+        rw (length-append (numberLine "found " p) (linesFrom (length recording) recording p false begun 0))
+        (omega (arith, found-length p (omega (arith, f .2)), small, short recording small (length recording) p false begun 0 (omega (arith, f .2)) (omega arith)))
+    go (Found.Refused why) e = omega (arith, none-length (finding.numberOf why) (refusal-small why))
+
+pub listed-fits : {r : ℕ} {was text : List ℕ} (recording : List ℕ) → Written 0 (listingOf recording) was r text → 16384 ≤ length was → r ≤ length text
+listed-fits recording w room = omega (arith, w .place, listing-fits recording, written-length w)

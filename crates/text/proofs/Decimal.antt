@@ -1,13 +1,13 @@
--- What `decimalOf` says: read back it is the number, and none but 0 begins with a zero.
-use borrow.Author.Tests.{lt-ltb, leb-true, leb-false}
+-- What `decimalOf` says: read back it is the number, none but 0 begins with a zero, and a small number has few digits.
+use borrow.Author.Tests.{lt-ltb, lt-leb, leb-true, leb-false}
 use mathlib.Core.Path.{_≡_, refl, sym, ap, _∙_}
 use mathlib.Core.Bool.{Bool, true, false, cond}
 use mathlib.Core.List.{List, [], _∷_, _++_}
 use Prim.Native.Nat.{ℕ, zero, suc, _+_, _-_, _*_, _/_, _%_, _^_, _≤_, _<_}
-use native.Mathlib.Nat.{div-eq-of-lt, div-lt-iff-lt-mul, div-div-eq-div-mul, le-div-iff-mul-le, one-le-pow, one-mul, pow-suc, mul-comm}
+use native.Mathlib.Nat.{zero-add, suc-add, pow-le-pow-right, div-eq-of-lt, div-lt-iff-lt-mul, div-div-eq-div-mul, le-div-iff-mul-le, one-le-pow, one-mul, pow-suc, mul-comm}
 use native.Mathlib.Omega.{arith}
 use lib.Dec.{leb, lit<}
-use lib.ListN.{getD}
+use lib.ListN.{length, getD, length-append}
 use Rattle.text.specs.Digits.{digitOf, digitAt, digitsFrom, decimalOf}
 
 shown : (d : ℕ) → d < 10 → digitOf d ≡ 48 + d
@@ -58,3 +58,37 @@ first-from (suc k) n h is =
 pub decimal-first : (n : ℕ) → n < 10 ^ 20 → getD (decimalOf n) 0 0 ≡ 48 → n ≡ 0
 unfolding decimalOf
 decimal-first n h is = first-from 19 n h is
+
+-- ---- a small number has few digits
+digit-few : (power n : ℕ) → length (digitAt power n) ≤ 1
+unfolding digitAt
+digit-few power n = go (leb power n)
+  where
+    go : (b : Bool) → length (cond b (digitOf (n / power % 10) ∷ []) []) ≤ 1
+    go true = omega arith
+    go false = omega arith
+
+digits-few : (k n : ℕ) → length (digitsFrom k n) ≤ suc k
+unfolding digitsFrom
+digits-few zero n = omega arith
+digits-few (suc k) n = rw length-append (omega (arith, digit-few (10 ^ suc k) n, digits-few k n))
+
+-- the powers above a number show nothing
+none-above : (power n : ℕ) → n < power → digitAt power n ≡ []
+unfolding digitAt
+none-above power n h = rw (lt-leb power n h)
+
+digits-short : (m j n : ℕ) → n < 10 ^ suc j → length (digitsFrom (m + j) n) ≤ suc j
+unfolding digitsFrom
+digits-short zero j n h = rw (zero-add j) (digits-few j n)
+digits-short (suc m) j n h =
+    let below : 10 ^ suc j ≤ 10 ^ suc (m + j) = pow-le-pow-right (lit< tt) (omega arith) in
+    rw (suc-add m j, none-above (10 ^ suc (m + j)) n (omega (arith, h, below))) (digits-short m j n h)
+
+pub decimal-three : (n : ℕ) → n < 1000 → length (decimalOf n) ≤ 3
+unfolding decimalOf
+decimal-three n h = digits-short 17 2 n h
+
+pub decimal-five : (n : ℕ) → n < 100000 → length (decimalOf n) ≤ 5
+unfolding decimalOf
+decimal-five n h = digits-short 15 4 n h

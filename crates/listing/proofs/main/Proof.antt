@@ -1,6 +1,7 @@
--- `listing::main` meets its contract: no part ends past its buffer.
+-- `listing::main` meets its contract: every listing fits its buffer.
 use native.Mathlib.Omega.{arith}
 use lib.ListN.{length-take}
+use Rattle.lines.proofs.ListingLaws.{listed-fits}
 use borrow.Author.Needs.{needs}
 use Rattle.listing.proofs.main.Statement.{statement}
 use Rattle.listing.proofs.main.Tie as tie
@@ -24,19 +25,16 @@ list-requires : tie.Need-list-requires
 list-requires c κs = search needs
 
 array-share-prefix-text : tie.Need-array-share-prefix-text
-array-share-prefix-text c = search needs
+array-share-prefix-text c = listed-fits _ (c .before .list .ensures) (omega arith)
 
 slice-aggregate-write-all : tie.Need-slice-aggregate-write-all
-slice-aggregate-write-all c = simp length-take (omega arith)
+slice-aggregate-write-all c = simp length-take (omega (arith, listed-fits _ (c .before .before .list .ensures) (omega arith)))
 
 write-all-requires : tie.Need-write-all-requires
 write-all-requires c κs = search needs
 
 returns : tie.Need-returns
 returns c = search needs
-
-returns-2 : tie.Need-returns-2
-returns-2 c = search needs
 
 pub main-spec : {M : Type 1} → statement M
 main-spec =
@@ -51,5 +49,4 @@ main-spec =
     array-share-prefix-text
     slice-aggregate-write-all
     write-all-requires
-    returns
-    returns-2)
+    returns)
