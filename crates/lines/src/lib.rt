@@ -122,7 +122,7 @@ fn step_on(recording: &[u8], place: usize, lost: bool, s: Reader) -> Stepped
 {
     let mut voice = [0u8; 140];
     let mut lsd = [0u8; 156];
-    recording::step(recording, place, lost, s, &mut voice, &mut lsd)
+    walk::step_from(recording, place, lost, s, &mut voice, &mut lsd)
 }
 
 // The lines of a walk from a place on. A recording has more octets than a walk over it has steps.
