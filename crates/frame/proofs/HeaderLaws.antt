@@ -40,7 +40,7 @@ channel-part (suc k) n (suc m) at line h =
     ap (λ (i : ℕ). channelBits n i line) e ∙ channel-part k n m (at + 1) line (omega arith)
 
 -- ---- the rows of the eight blocks of a multiframe
-each8 : (P : ℕ → Type 0) → P 0 → P 1 → P 2 → P 3 → P 4 → P 5 → P 6 → P 7 → (k : ℕ) → k < 8 → P k
+pub each8 : (P : ℕ → Type 0) → P 0 → P 1 → P 2 → P 3 → P 4 → P 5 → P 6 → P 7 → (k : ℕ) → k < 8 → P k
 each8 P a b c d e f g h zero l = a
 each8 P a b c d e f g h (suc zero) l = b
 each8 P a b c d e f g h (suc (suc zero)) l = c

@@ -31,7 +31,7 @@ use Rattle.slots.specs.declared.Reading.{Reading}
 use Rattle.frame.specs.Block.{blockOf}
 use Rattle.frame.specs.Channel.{wrongBits, oddFirst, cBits, basWord}
 use Rattle.frame.specs.declared.Header.{Header}
-use Rattle.frame.proofs.HeaderLaws.{oddBit, right-alignment, first-bit-back, remainder-back, code-back}
+use Rattle.frame.proofs.HeaderLaws.{each8, oddBit, right-alignment, first-bit-back, remainder-back, code-back}
 use Rattle.sender.specs.State.{itemDue}
 use Rattle.sender.specs.Plans.{dueNumber, planBy}
 use Rattle.sender.specs.Refusals.{goesAsItem}
@@ -66,15 +66,7 @@ use Rattle.lesson.proofs.WordLaws.{rule-due, Sends, word-small, plan-mo
 -- ---- the eight blocks of a multiframe
 pub each : (P : ℕ → Type 0) → P 1 → P 2 → P 3 → P 4 → P 5 → P 6 → P 7 → P 8 → (b : ℕ) → 1 ≤ b → b ≤ 8 → P b
 each P p₁ p₂ p₃ p₄ p₅ p₆ p₇ p₈ zero l u = absurd (omega arith)
-each P p₁ p₂ p₃ p₄ p₅ p₆ p₇ p₈ (suc zero) l u = p₁
-each P p₁ p₂ p₃ p₄ p₅ p₆ p₇ p₈ (suc (suc zero)) l u = p₂
-each P p₁ p₂ p₃ p₄ p₅ p₆ p₇ p₈ (suc (suc (suc zero))) l u = p₃
-each P p₁ p₂ p₃ p₄ p₅ p₆ p₇ p₈ (suc (suc (suc (suc zero)))) l u = p₄
-each P p₁ p₂ p₃ p₄ p₅ p₆ p₇ p₈ (suc (suc (suc (suc (suc zero))))) l u = p₅
-each P p₁ p₂ p₃ p₄ p₅ p₆ p₇ p₈ (suc (suc (suc (suc (suc (suc zero)))))) l u = p₆
-each P p₁ p₂ p₃ p₄ p₅ p₆ p₇ p₈ (suc (suc (suc (suc (suc (suc (suc zero))))))) l u = p₇
-each P p₁ p₂ p₃ p₄ p₅ p₆ p₇ p₈ (suc (suc (suc (suc (suc (suc (suc (suc zero)))))))) l u = p₈
-each P p₁ p₂ p₃ p₄ p₅ p₆ p₇ p₈ (suc (suc (suc (suc (suc (suc (suc (suc (suc b))))))))) l u = absurd (omega arith)
+each P p₁ p₂ p₃ p₄ p₅ p₆ p₇ p₈ (suc k) l u = each8 (λ (n : ℕ). P (suc n)) p₁ p₂ p₃ p₄ p₅ p₆ p₇ p₈ k (omega arith)
 
 -- the first bit of the odd frame of a block, as it is sent
 abbrev pub bitOf : ℕ → Bool
