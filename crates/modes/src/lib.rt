@@ -12,11 +12,13 @@ ghost use Rattle.modes.specs.Commands.{inRange, commandOf, offered, foll
 // The three numbers that are counted apart: a frame of a multiframe, 0 to 15; a block of it, 1 to 8; an octet of a frame, 1 to 80.
 pub struct FrameNumber(pub u8);
 
+#[repr(C)]
 pub struct BlockNumber(pub u8);
 
 pub struct OctetNumber(pub u8);
 
 // What is in force: an audio value of (000) and a data value of (011).
+#[repr(C)]
 pub struct Mode {
     pub audio: u8,
     pub lsd: u8,

@@ -19,6 +19,7 @@ use slots::Due;
 use slots::Reading;
 
 // What is due, as a saved state holds it: kind 0 is a plain word, 1 an item, 2 N, and every other number a message with `words` left.
+#[repr(C)]
 pub struct Slot {
     pub kind: u8,
     pub words: u8,
@@ -27,6 +28,7 @@ pub struct Slot {
 // What a reader keeps between blocks: the mode in force; the mode before the first of a run of wrong alignment words, and that run; the
 // number of the next block, 0 while it is unknown; the odd-frame first bits since alignment, of which the last six count, as a number;
 // the run of wrong patterns; what is due; whether there is a block before, and its remainder.
+#[repr(C)]
 pub struct Reader {
     pub mode: Mode,
     pub kept: Mode,

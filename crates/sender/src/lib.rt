@@ -14,6 +14,7 @@ use modes::Mode;
 use modes::Opening;
 
 // What a sender keeps between blocks. The chosen audio stands apart from the audio in force; `due` is 0, or an item is due.
+#[repr(C)]
 pub struct Sender {
     pub chosen: u8,
     pub mode: Mode,
