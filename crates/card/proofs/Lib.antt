@@ -1,1 +1,2 @@
 pub mod SendLaws
+pub mod ReadLaws
