@@ -1,0 +1,4 @@
+/* See stddef.h. */
+#pragma once
+typedef __UINT8_TYPE__ uint8_t;
+typedef __UINT16_TYPE__ uint16_t;

@@ -1,0 +1,3 @@
+/* See stddef.h. */
+#pragma once
+int printf(const char *format, ...);

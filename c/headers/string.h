@@ -1,0 +1,6 @@
+/* See stddef.h. */
+#pragma once
+#include <stddef.h>
+int memcmp(const void *one, const void *other, size_t length);
+void *memcpy(void *to, const void *from, size_t length);
+void *memset(void *at, int octet, size_t length);
