@@ -46,6 +46,16 @@ fn the_reading_is_the_models() {
 }
 
 #[test]
+fn the_recording_that_is_sent_and_heard_is_the_models() {
+    let words = text(&stored("crates/send/args"));
+    let calls: Vec<&str> = words.lines().collect();
+    let expected = printed(&["send", "--offer", &calls.join(",")], &stored("crates/send/stdin"));
+    for name in ["crates/send/stdout", "crates/hear/stdin"] {
+        assert_same(name, &stored(name), &expected);
+    }
+}
+
+#[test]
 fn the_listings_are_the_models() {
     let folder = std::env::temp_dir().join(format!("model-test-{}-listings", std::process::id()));
     assert!(printed(&["listings", &folder.to_string_lossy()], &[]).is_empty());
