@@ -12,6 +12,7 @@ ghost use Rattle.modes.specs.Commands.{inRange, commandOf, offered, foll
 // The three numbers that are counted apart: a frame of a multiframe, 0 to 15; a block of it, 1 to 8; an octet of a frame, 1 to 80.
 pub struct FrameNumber(pub u8);
 
+// Laid out as in C, as all that a state holds: states cross to a card driver as they stand.
 #[repr(C)]
 pub struct BlockNumber(pub u8);
 

@@ -27,7 +27,7 @@ pub struct Slot {
 
 // What a reader keeps between blocks: the mode in force; the mode before the first of a run of wrong alignment words, and that run; the
 // number of the next block, 0 while it is unknown; the odd-frame first bits since alignment, of which the last six count, as a number;
-// the run of wrong patterns; what is due; whether there is a block before, and its remainder.
+// the run of wrong patterns; what is due; whether there is a block before, and its remainder. Laid out as in C for a card driver.
 #[repr(C)]
 pub struct Reader {
     pub mode: Mode,

@@ -13,7 +13,8 @@ use modes::BlockNumber;
 use modes::Mode;
 use modes::Opening;
 
-// What a sender keeps between blocks. The chosen audio stands apart from the audio in force; `due` is 0, or an item is due.
+// What a sender keeps between blocks, laid out as in C for a card driver. The chosen audio stands apart from the audio in force; `due` is
+// 0, or an item is due.
 #[repr(C)]
 pub struct Sender {
     pub chosen: u8,
