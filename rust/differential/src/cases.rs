@@ -1,0 +1,68 @@
+//! Runs cases by number, each drawn from the seed, the test's name and its own number alone.
+
+use std::env;
+
+use model::vectors::random::Random;
+
+use crate::calls::Call;
+use crate::server::Server;
+
+/// Cases of a test of share 1 where `CASES` does not say otherwise.
+const CASES: u64 = 6000;
+
+/// The seed where `SEED` does not say otherwise.
+const SEED: u64 = 221;
+
+/// A case that is under way.
+pub struct Trial<'a> {
+    /// Where its inputs are drawn from.
+    pub random: Random,
+    server: &'a mut Server,
+    name: &'a str,
+    seed: u64,
+    number: u64,
+    calls: &'a mut u64,
+}
+
+impl Trial<'_> {
+    /// Makes a call and holds what it leaves to the model; a difference ends the test.
+    pub fn call<C: Call>(&mut self, call: &C) -> C::Left {
+        let left = self.server.call(call);
+        let expected = call.expected();
+        *self.calls += 1;
+        if left != expected {
+            let again = format!("SEED={} CASE={} cargo test {}", self.seed, self.number, self.name);
+            panic!("the library and the model differ\nagain:   {again}\ncall:    {call:?}\nlibrary: {left:?}\nmodel:   {expected:?}");
+        }
+        left
+    }
+}
+
+/// Runs the cases of the test `name`. One with a share of 10 has a tenth of the cases, as its own are longer.
+pub fn run(name: &str, share: u64, case: impl Fn(&mut Trial)) {
+    let seed = setting("SEED").unwrap_or(SEED);
+    let count = (setting("CASES").unwrap_or(CASES) / share).max(1);
+    let numbers = match setting("CASE") {
+        Some(number) => number..number + 1,
+        None => 0..count,
+    };
+    let mut server = Server::start();
+    let mut calls = 0;
+    for number in numbers.clone() {
+        let random = random(name, seed, number);
+        case(&mut Trial { random, server: &mut server, name, seed, number, calls: &mut calls });
+    }
+    println!("{name}: {calls} calls in {} cases", numbers.end - numbers.start);
+}
+
+fn setting(name: &str) -> Option<u64> {
+    let text = env::var(name).ok()?;
+    Some(text.parse().unwrap_or_else(|_| panic!("{name} is a number, not {text:?}")))
+}
+
+/// Other names and seeds give other cases with the same number.
+fn random(name: &str, seed: u64, number: u64) -> Random {
+    let mixed = name.bytes().fold(seed, |sum, octet| Random::new(sum ^ u64::from(octet)).bits());
+    let first = Random::new(mixed.wrapping_add(number)).bits();
+    Random::new(first)
+}

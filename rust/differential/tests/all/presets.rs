@@ -1,0 +1,22 @@
+//! `delampuk_read_preset` and `delampuk_write_preset`.
+
+use differential::calls::{ReadPreset, WritePreset};
+use differential::cases::run;
+use differential::draw;
+
+#[test]
+fn every_preset_is_read() {
+    run("every_preset_is_read", u64::MAX, |trial| {
+        for bits in 0..=u16::MAX {
+            trial.call(&ReadPreset { bits });
+        }
+    });
+}
+
+#[test]
+fn presets_are_written() {
+    run("presets_are_written", 1, |trial| {
+        let state = draw::sender(&mut trial.random);
+        trial.call(&WritePreset { state });
+    });
+}

@@ -1,0 +1,60 @@
+//! `delampuk_read`.
+
+use differential::cases::{run, Trial};
+use differential::draw;
+use differential::states::{self, Reader};
+use model::reader::ReaderState;
+
+#[test]
+fn reader_steps() {
+    run("reader_steps", 1, |trial| {
+        let call = draw::read(&mut trial.random);
+        trial.call(&call);
+    });
+}
+
+#[test]
+fn reader_takes_every_octet_in_each_field() {
+    run("reader_takes_every_octet_in_each_field", 3000, |trial| {
+        let state = draw::reader_in_range(&mut trial.random);
+        for field in 0..state.len() {
+            for octet in 0..=255 {
+                let mut forged = state;
+                forged[field] = octet;
+                let line = draw::line(&mut trial.random, forged);
+                let call = draw::read_on(&mut trial.random, forged, line);
+                trial.call(&call);
+            }
+        }
+    });
+}
+
+#[test]
+fn clean_sessions() {
+    run("clean_sessions", 40, |trial| {
+        let blocks = 10 + trial.random.below(30);
+        let session = draw::session(&mut trial.random, blocks);
+        read_all(trial, &session);
+    });
+}
+
+/// Damaged in service bits and anywhere else, and slipped by some octets.
+#[test]
+fn damaged_sessions() {
+    run("damaged_sessions", 20, |trial| {
+        let blocks = 10 + trial.random.below(30);
+        let mut session = draw::session(&mut trial.random, blocks);
+        draw::damage(&mut trial.random, &mut session);
+        read_all(trial, &session);
+    });
+}
+
+/// Reads block after block, each call going on from the octets that the library left; what is over at the end is
+/// refused for its length.
+fn read_all(trial: &mut Trial, session: &[u8]) {
+    let mut state: Reader = states::reader_octets(&ReaderState::FRESH).expect("the library has a fresh state");
+    for line in session.chunks(160) {
+        let call = draw::read_on(&mut trial.random, state, line.to_vec());
+        state = trial.call(&call).state;
+    }
+}
