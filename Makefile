@@ -1,5 +1,6 @@
-# Two commands: `make demo` shows what the library does, `make test` runs every check.
-.PHONY: demo test
+# `make demo` shows what the library does, `make test` runs every check, and `make soak` compares the library with the model in Rust for
+# longer: CASES and SEED can be given.
+.PHONY: demo test soak
 
 demo:
 	@mkdir -p target
@@ -10,3 +11,8 @@ demo:
 
 test:
 	@sh tools/test
+
+soak: export CASES ?= 1000000
+soak:
+	@sh tools/serve build
+	@cargo test --offline --release --manifest-path rust/Cargo.toml -p differential -- --nocapture

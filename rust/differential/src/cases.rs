@@ -8,7 +8,7 @@ use crate::calls::Call;
 use crate::server::Server;
 
 /// Cases of a test of share 1 where `CASES` does not say otherwise.
-const CASES: u64 = 6000;
+const CASES: u64 = 30_000;
 
 /// The seed where `SEED` does not say otherwise.
 const SEED: u64 = 221;

@@ -200,19 +200,22 @@ pub fn session(random: &mut Random, blocks: usize) -> Vec<u8> {
     let idle = if random.percent(80) { 7 } else { 0 };
     let mut state = SenderState::FRESH;
     let mut session = Vec::new();
-    while session.len() < blocks * BLOCK_OCTETS {
+    // Refused codes are followed by others; the bound is never met unless the model's state has gone wrong.
+    for _ in 0..100 * blocks {
+        if session.len() == blocks * BLOCK_OCTETS {
+            return session;
+        }
         let offered = if session.len() < idle * BLOCK_OCTETS { 0x80 } else { code(random) };
         let [a, e, t] = [(); 3].map(|()| random.percent(50));
         let (voice, data) = (random.octets(VOICE_OCTETS), random.octets(DATA_OCTETS));
         let mute = random.percent(20);
         let call = sender::Call { mute, offered, flags: Flags { a, e, t }, voice: &voice, data: &data };
         let mut line = [0; BLOCK_OCTETS];
-        // A refused code is followed by another one; most are not refused.
         if sender::send(&mut state, &call, &mut line).is_ok() {
             session.extend(line);
         }
     }
-    session
+    panic!("the model's sender refuses every code in {state:?}")
 }
 
 /// Damages a recording in place, or slips it by some octets.

@@ -15,7 +15,7 @@ fn reader_steps() {
 
 #[test]
 fn reader_takes_every_octet_in_each_field() {
-    run("reader_takes_every_octet_in_each_field", 3000, |trial| {
+    run("reader_takes_every_octet_in_each_field", 15_000, |trial| {
         let state = draw::reader_in_range(&mut trial.random);
         for field in 0..state.len() {
             for octet in 0..=255 {

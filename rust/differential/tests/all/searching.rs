@@ -16,7 +16,7 @@ fn searches() {
 /// One session with each length that its end can be cut to, from each start near the end.
 #[test]
 fn searches_near_the_end() {
-    run("searches_near_the_end", 3000, |trial| {
+    run("searches_near_the_end", 15_000, |trial| {
         let session = draw::session(&mut trial.random, 3);
         for length in 160..=336 {
             for start in [0, 1, length - 168.min(length), length - 167.min(length), length, length + 1] {
@@ -30,7 +30,7 @@ fn searches_near_the_end() {
 /// The longest recordings, and too long ones.
 #[test]
 fn long_searches() {
-    run("long_searches", 600, |trial| {
+    run("long_searches", 1000, |trial| {
         let length = trial.random.pick(&[65_535, 65_536, 65_536, 65_537, 70_000, 131_072]);
         let mut recording = trial.random.octets(length);
         if trial.random.percent(60) {

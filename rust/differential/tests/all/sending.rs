@@ -34,7 +34,7 @@ fn sender_takes_every_code() {
 
 #[test]
 fn sender_takes_every_octet_in_each_field() {
-    run("sender_takes_every_octet_in_each_field", 1500, |trial| {
+    run("sender_takes_every_octet_in_each_field", 7500, |trial| {
         let state = draw::sender_in_range(&mut trial.random);
         for field in 0..state.len() {
             for octet in 0..=255 {

@@ -68,7 +68,7 @@ fn walk(trial: &mut Trial, recording: Vec<u8>) {
 /// Steps near the end of the longest recordings, and in too long ones.
 #[test]
 fn steps_in_long_recordings() {
-    run("steps_in_long_recordings", 600, |trial| {
+    run("steps_in_long_recordings", 1000, |trial| {
         let length = trial.random.pick(&[65_536, 65_536, 65_537, 100_000]);
         let mut recording = trial.random.octets(length);
         let blocks = draw::session(&mut trial.random, 9);
