@@ -28,6 +28,11 @@ pub trait Call: Debug {
 
     /// What the call has to leave by the model.
     fn expected(&self) -> Self::Left;
+
+    /// Names for what became of the call, by which a test can ask that its cases reach them all.
+    fn outcome(_left: &Self::Left) -> Vec<String> {
+        Vec::new()
+    }
 }
 
 /// Octets of a buffer; they print as hex digits.
@@ -164,6 +169,10 @@ impl Call for Send {
         };
         SendLeft { kind, number, state, kept: 1, line }
     }
+
+    fn outcome(left: &SendLeft) -> Vec<String> {
+        vec![format!("kind {}", left.kind), format!("number {}", left.number)]
+    }
 }
 
 /// `delampuk_read`.
@@ -226,6 +235,13 @@ impl Call for Read {
         };
         ReadLeft { state, kind, number, block, kept: 1, voice, lsd }
     }
+
+    fn outcome(left: &ReadLeft) -> Vec<String> {
+        let [standing, verdict, reading, _] = left.block;
+        let block = [format!("standing {standing}"), format!("verdict {verdict}"), format!("reading {reading}")];
+        let number = format!("number {}", left.number);
+        block.into_iter().chain([number]).collect()
+    }
 }
 
 /// `delampuk_search`.
@@ -265,6 +281,10 @@ impl Call for Search {
             Err(refusal) => (refusal.number(), 0),
         };
         SearchLeft { number, place, kept: 1 }
+    }
+
+    fn outcome(left: &SearchLeft) -> Vec<String> {
+        vec![format!("number {}", left.number)]
     }
 }
 
@@ -359,6 +379,10 @@ impl Call for WalkStep {
             voice,
             lsd,
         }
+    }
+
+    fn outcome(left: &StepLeft) -> Vec<String> {
+        vec![format!("kind {}", left.kind), format!("number {}", left.number)]
     }
 }
 

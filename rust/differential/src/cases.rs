@@ -1,5 +1,6 @@
 //! Runs cases by number, each drawn from the seed, the test's name and its own number alone.
 
+use std::collections::BTreeSet;
 use std::env;
 
 use model::vectors::random::Random;
@@ -21,7 +22,7 @@ pub struct Trial<'a> {
     name: &'a str,
     seed: u64,
     number: u64,
-    calls: &'a mut u64,
+    reached: &'a mut Reached,
 }
 
 impl Trial<'_> {
@@ -29,17 +30,38 @@ impl Trial<'_> {
     pub fn call<C: Call>(&mut self, call: &C) -> C::Left {
         let left = self.server.call(call);
         let expected = call.expected();
-        *self.calls += 1;
+        self.reached.calls += 1;
+        self.reached.outcomes.extend(C::outcome(&left));
         if left != expected {
-            let again = format!("SEED={} CASE={} cargo test {}", self.seed, self.number, self.name);
+            let again = format!(
+                "SEED={} CASE={} cargo test --offline --release -p differential {}",
+                self.seed, self.number, self.name
+            );
             panic!("the library and the model differ\nagain:   {again}\ncall:    {call:?}\nlibrary: {left:?}\nmodel:   {expected:?}");
         }
         left
     }
 }
 
+/// What the cases of a test came to.
+#[derive(Default)]
+pub struct Reached {
+    calls: u64,
+    outcomes: BTreeSet<String>,
+}
+
+impl Reached {
+    /// Asks that the cases met each number of a kind of outcome; too few cases are not asked.
+    pub fn all(&self, kind: &str, numbers: impl IntoIterator<Item = u8>) {
+        for number in numbers {
+            let outcome = format!("{kind} {number}");
+            assert!(self.calls < 5000 || self.outcomes.contains(&outcome), "no case reaches {outcome}");
+        }
+    }
+}
+
 /// Runs the cases of the test `name`. One with a share of 10 has a tenth of the cases, as its own are longer.
-pub fn run(name: &str, share: u64, case: impl Fn(&mut Trial)) {
+pub fn run(name: &str, share: u64, case: impl Fn(&mut Trial)) -> Reached {
     let seed = setting("SEED").unwrap_or(SEED);
     let count = (setting("CASES").unwrap_or(CASES) / share).max(1);
     let numbers = match setting("CASE") {
@@ -47,12 +69,13 @@ pub fn run(name: &str, share: u64, case: impl Fn(&mut Trial)) {
         None => 0..count,
     };
     let mut server = Server::start();
-    let mut calls = 0;
+    let mut reached = Reached::default();
     for number in numbers.clone() {
         let random = random(name, seed, number);
-        case(&mut Trial { random, server: &mut server, name, seed, number, calls: &mut calls });
+        case(&mut Trial { random, server: &mut server, name, seed, number, reached: &mut reached });
     }
-    println!("{name}: {calls} calls in {} cases", numbers.end - numbers.start);
+    println!("{name}: {} calls in {} cases", reached.calls, numbers.end - numbers.start);
+    reached
 }
 
 fn setting(name: &str) -> Option<u64> {

@@ -231,6 +231,9 @@ pub fn damage(random: &mut Random, recording: &mut Vec<u8>) {
             recording[octet] ^= 1 << random.pick(&[0, 0, 0, any_bit]);
         }
     }
+    if random.percent(40) {
+        put_message(random, recording);
+    }
     if random.percent(25) {
         let place = random.below(recording.len());
         let length = 1 + random.below(200);
@@ -241,6 +244,17 @@ pub fn damage(random: &mut Random, recording: &mut Vec<u8>) {
         let place = random.below(recording.len());
         let end = recording.len().min(place + 1 + random.below(200));
         recording.drain(place..end);
+    }
+}
+
+/// Puts a message into a recording, which our sender never sends: an opener, and in the next block how many words follow.
+fn put_message(random: &mut Random, recording: &mut [u8]) {
+    let first = random.below(recording.len() / BLOCK_OCTETS);
+    let opener = 0xF9 + random.below(7) as u8;
+    let words = random.below(6) as u8;
+    for (block, code) in recording.chunks_exact_mut(BLOCK_OCTETS).skip(first).zip([opener, words]) {
+        let line = Line { octets: block.to_vec() }.word(bas::sent(code));
+        block.copy_from_slice(&line.octets);
     }
 }
 

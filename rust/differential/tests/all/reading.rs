@@ -7,10 +7,14 @@ use model::reader::ReaderState;
 
 #[test]
 fn reader_steps() {
-    run("reader_steps", 1, |trial| {
+    let reached = run("reader_steps", 1, |trial| {
         let call = draw::read(&mut trial.random);
         trial.call(&call);
     });
+    reached.all("standing", 0..=2);
+    reached.all("verdict", 0..=2);
+    reached.all("reading", 0..=6);
+    reached.all("number", 0..=4);
 }
 
 #[test]
@@ -41,12 +45,15 @@ fn clean_sessions() {
 /// Damaged in service bits and anywhere else, and slipped by some octets.
 #[test]
 fn damaged_sessions() {
-    run("damaged_sessions", 20, |trial| {
+    let reached = run("damaged_sessions", 20, |trial| {
         let blocks = 10 + trial.random.below(30);
         let mut session = draw::session(&mut trial.random, blocks);
         draw::damage(&mut trial.random, &mut session);
         read_all(trial, &session);
     });
+    reached.all("standing", 0..=2);
+    reached.all("verdict", 0..=2);
+    reached.all("reading", 0..=6);
 }
 
 /// Reads block after block, each call going on from the octets that the library left; what is over at the end is

@@ -6,11 +6,12 @@ use differential::draw;
 
 #[test]
 fn searches() {
-    run("searches", 2, |trial| {
+    let reached = run("searches", 2, |trial| {
         let recording = draw::recording(&mut trial.random);
         let start = draw::place(&mut trial.random, recording.len());
         trial.call(&Search { recording: Octets(recording), start });
     });
+    reached.all("number", [0, 9, 10]);
 }
 
 /// One session with each length that its end can be cut to, from each start near the end.

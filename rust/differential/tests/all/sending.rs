@@ -13,10 +13,12 @@ fn fresh_states() {
 
 #[test]
 fn sender_steps() {
-    run("sender_steps", 1, |trial| {
+    let reached = run("sender_steps", 1, |trial| {
         let call = draw::send(&mut trial.random);
         trial.call(&call);
     });
+    reached.all("kind", 0..=2);
+    reached.all("number", 0..=8);
 }
 
 #[test]

@@ -12,7 +12,7 @@ const END: u8 = 2;
 
 #[test]
 fn walk_steps() {
-    run("walk_steps", 2, |trial| {
+    let reached = run("walk_steps", 2, |trial| {
         let random = &mut trial.random;
         let recording = draw::recording(random);
         let call = WalkStep {
@@ -25,14 +25,17 @@ fn walk_steps() {
         };
         trial.call(&call);
     });
+    reached.all("kind", 0..=3);
+    reached.all("number", [0, 1, 3, 4, 9]);
 }
 
 #[test]
 fn whole_walks() {
-    run("whole_walks", 20, |trial| {
+    let reached = run("whole_walks", 20, |trial| {
         let recording = draw::recording(&mut trial.random);
         walk(trial, recording);
     });
+    reached.all("kind", 0..=2);
 }
 
 /// From the first place that a search finds to the end, each step going on from what the library left. A step
