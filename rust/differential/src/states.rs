@@ -6,7 +6,8 @@
 //! - A reader's block 0 is the unknown place.
 //! - Of a reader's `firsts` the last six bits count, and a block leaves no more than those (R29).
 //! - A slot of kind 3 or above is a message, and one with no words left is the same as a plain word; a block leaves
-//!   kind 0 then, kind 3 for all other messages, and 0 words beside the other kinds (R27).
+//!   kind 0 then (R27). No decision says which number a message leaves, nor the words beside the other kinds: kind 3
+//!   and 0 words are the library's own choice, asked for here so that it stays one.
 //! - `before` is "no" for 0 and "yes" for all others; a block leaves 0 or 1. The remainder is judged in both cases (R28).
 //!
 //! So octets become a model's state by these rules, and a state that a call leaves becomes the one row of octets
