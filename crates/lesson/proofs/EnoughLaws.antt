@@ -33,7 +33,7 @@ use Rattle.lesson.specs.NotEnough.{Program, Meets, Accepts, RefusesEvery
 use Rattle.lesson.proofs.InStepLaws.{octets-laid-down}
 
 -- a call with buffers of the right lengths that offers this code, with mute clear
-abbrev offer : ℕ → Turn
+abbrev pub offer : ℕ → Turn
 offer code =
     record {
       call = record { mute = false; code = code; a = false; e = false; t = false };
@@ -42,11 +42,11 @@ offer code =
       line = replicate 160 0;
     }
 
-abbrev fresh : Sender
+abbrev pub fresh : Sender
 fresh = freshWith audioOff
 
 -- (100)[0] and (100)[1] are carried and touch no mode
-fresh-range : stateInRange fresh ≡ true
+pub fresh-range : stateInRange fresh ≡ true
 unfolding stateInRange inRange audioPlaces audioTable lsdPlaces lsdTable beside overlaps clash some holds heldBy
 fresh-range = refl
 

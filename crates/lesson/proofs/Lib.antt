@@ -8,4 +8,5 @@ pub mod MuteLaws
 pub mod HeardLaws
 pub mod FigureLaws
 pub mod EnoughLaws
+pub mod QuietLaws
 pub mod Examples
