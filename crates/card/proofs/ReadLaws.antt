@@ -1,6 +1,6 @@
 -- A reading call and a walk's step in numbers: what the exported functions put together, and that a step which moves nothing gives the
 -- mark back as it was.
-use mathlib.Core.Path.{_≡_, refl, ap, _∙_}
+use mathlib.Core.Path.{_≡_, refl, ap}
 use mathlib.Core.Bool.{Bool}
 use mathlib.Core.List.{List}
 use Prim.Native.Nat.{ℕ, zero, suc}

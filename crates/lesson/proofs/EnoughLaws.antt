@@ -27,7 +27,7 @@ use Rattle.sender.specs.declared.Sender.{Sender}
 use Rattle.sender.specs.declared.Outcome.{Outcome}
 use Rattle.sender.specs.declared.Answer.the-variants.{Sent}
 use Rattle.sender.proofs.RangeLaws.{stays-in-range}
-use Rattle.lesson.specs.Session.{Turn, turned, after, accepted, Entry}
+use Rattle.lesson.specs.Session.{Turn, turned, after, accepted, entryOf}
 use Rattle.lesson.specs.Demand2.{wordOf, LaidDown}
 use Rattle.lesson.specs.NotEnough.{Program, Meets, Accepts, RefusesEverything, SendsOneBlock, WritesNothing, Repeats, NoneIsEnough, NoPlaceMadeUp}
 use Rattle.lesson.proofs.InStepLaws.{octets-laid-down}
@@ -85,13 +85,10 @@ second-sent = rw second-range
 
 -- ---- what an accepted call's block says
 module _ (s : Sender) (x : Turn) (taken : (turned s x) .outcome .answer ≡ Sent) where
-  entry : Entry
-  entry = record { found = s; turn = x }
-
-  laid : LaidDown (record { found = s; turn = x })
+  laid : LaidDown (entryOf s x)
   laid = (rw taken at (octets-laid-down s (x ∷ []))) .1
 
-  says : wordOf (record { found = s; turn = x }) < 256 → readingOf (basWord ((turned s x) .line)) ≡ Code (wordOf (record { found = s; turn = x }))
+  says : wordOf (entryOf s x) < 256 → readingOf (basWord ((turned s x) .line)) ≡ Code (wordOf (entryOf s x))
   says small = ap (λ (l : List ℕ). readingOf (basWord l)) laid ∙ code-back (s .mode) _ (x .call .mute) (x .voice) (x .lsd) small
 
   aligned-line : wrongBits ((turned s x) .line) ≡ 0

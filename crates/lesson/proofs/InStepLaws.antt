@@ -58,7 +58,7 @@ use Rattle.reader.proofs.OutcomeLaws.{takes, told-taken}
 use Rattle.reader.proofs.RangeLaws.{due-back, step-in-range}
 use Rattle.sorter.specs.Sorting.{sortedOf}
 use Rattle.sorter.proofs.RoundLaws.{voice-bits-back, lsd-back}
-use Rattle.lesson.specs.Session.{Turn, after, Entry, log, blockSent}
+use Rattle.lesson.specs.Session.{Turn, after, Entry, log, blockSent, entryOf}
 use Rattle.lesson.specs.Demand2.{wordOf, LaidDown, GoesOn, BlockAfterBlock, OctetsLaidDown, wordDue, lastSix, KeptAsSent, Placed, InStep, Agrees, readerAfter, HandedBack, Back, AllBack, StaysInStep, JoinsAtNeutral}
 use Rattle.lesson.proofs.TurnLaws.{Stayed, Went, turn-cases, log-stayed, log-went}
 use Rattle.lesson.proofs.WordLaws.{rule-due, Sends, word-small, plan-mode, plan-due, mode-follows, due-after-same}
@@ -133,7 +133,7 @@ module _ (r : Reader) (b : BlockNumber) (due : Due) (same : r .block ≡ b) (bit
 -- ---- an accepted call
 module _ (s : Sender) (x : Turn) (rule : Rule) (w : Went s x rule) where
   abbrev pub entry : Entry
-  entry = record { found = s; turn = x }
+  entry = entryOf s x
 
   abbrev pub plan : Plan
   plan = planBy rule s (x .call .code)
@@ -330,13 +330,13 @@ stays-in-step s r (x ∷ xs) bits st = go (turn-cases s x) (stays-in-step s r xs
     go (inl k) same next = rw (log-stayed s x xs k) same
     go (inr (rule, w)) same next =
         let b = back s x rule w (bits .0) r st in
-        rw (log-went s x xs rule w) (b, next (readerAfter r (record { found = s; turn = x })) (b .step))
+        rw (log-went s x xs rule w) (b, next (readerAfter r (entryOf s x)) (b .step))
 
 -- ---- coming into step
 pub joins-at-neutral : JoinsAtNeutral
 joins-at-neutral s r x small taken st none is = go (turn-cases s x)
   where
-    go : Stayed s x ⊎ ((rule : Rule) × Went s x rule) → InStep (after s x) (readerAfter r (record { found = s; turn = x }))
+    go : Stayed s x ⊎ ((rule : Rule) × Went s x rule) → InStep (after s x) (readerAfter r (entryOf s x))
     go (inl k) = absurd (false≢true (rw (k .answer) at taken))
     go (inr (rule, w)) =
         record {

@@ -29,8 +29,8 @@ use Rattle.reader.specs.declared.Reader.{Reader}
 use Rattle.reader.specs.declared.Slot.{Slot}
 use Rattle.reader.specs.declared.Stepped.{Stepped}
 use Rattle.reader.proofs.RangeLaws.{fresh-in-range, step-in-range}
-use Rattle.lesson.specs.Session.{Turn, after, Entry, log, blockSent}
-use Rattle.lesson.specs.Demand2.{KeptAsSent, Placed, InStep, readerAfter, EightBits, FreshWaits, untilSix, senderOn, readerOn, FindsPlace, ComesIntoStep}
+use Rattle.lesson.specs.Session.{Turn, after, Entry, log, blockSent, entryOf}
+use Rattle.lesson.specs.Demand2.{KeptAsSent, Placed, readerAfter, EightBits, FreshWaits, untilSix, senderOn, readerOn, FindsPlace, ComesIntoStep}
 use Rattle.lesson.proofs.TurnLaws.{Stayed, Went, turn-cases, log-stayed, log-went}
 use Rattle.lesson.proofs.InStepLaws.{each, bitOf, shown, stepped}
 
@@ -62,7 +62,7 @@ found-in-time = each (λ (b : ℕ). foundAt (untilSix b) b 0b111111 ≡ true) re
 -- ---- one block heard while waiting
 module _ (s : Sender) (x : Turn) (rule : Rule) (w : Went s x rule) (small : x .call .code < 256) (r : Reader) (f : ℕ) (k : Seeks r f) where
   abbrev heard : Entry
-  heard = record { found = s; turn = x }
+  heard = entryOf s x
 
   next : readerAfter r heard ≡ nextOf r (shown s x rule w) 0
   next = ap (λ (q : Stepped). q .state) (stepped s x rule w small r)
@@ -114,7 +114,7 @@ Joins n s r es =
 module _ (s : Sender) (x : Turn) (rule : Rule) (w : Went s x rule) (small : x .call .code < 256) (r : Reader) (f : ℕ) (k : Seeks r f)
     (es : List Entry) where
   abbrev one : Entry
-  one = record { found = s; turn = x }
+  one = entryOf s x
 
   -- the block was the last one wanted
   last-block : foundAt 1 (s .block .0) f ≡ true → Joins 1 s r (one ∷ es)

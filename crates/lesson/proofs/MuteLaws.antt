@@ -12,7 +12,7 @@ use Rattle.sender.specs.Plans.{planBy}
 use Rattle.sender.specs.declared.Sender.{Sender}
 use Rattle.sender.specs.declared.Rule.{Rule}
 use Rattle.sender.specs.declared.Rule.the-variants.{AsItem, MuteOff}
-use Rattle.lesson.specs.Session.{Turn, Entry, after, log}
+use Rattle.lesson.specs.Session.{Turn, Entry, after, log, entryOf}
 use Rattle.lesson.specs.Demand3.{MuteStaysSet, MuteGone, By, MuteBound}
 use Rattle.lesson.proofs.TurnLaws.{Stayed, Went, turn-cases, log-stayed, log-went}
 
@@ -40,14 +40,14 @@ by-later m (suc n) P e es h b = inr (by-more m n P es h b)
 module _ (P : Entry → Type 0) (Waits : Sender → Type 0) (left : Sender → ℕ)
     (some : (s : Sender) → Waits s → 0 < left s)
     (moves : (s : Sender) (x : Turn) (rule : Rule) → Waits s → x .call .mute ≡ true → Went s x rule
-    → P (record { found = s; turn = x }) ⊎ (Waits (after s x) × (left (after s x) < left s)))
+    → P (entryOf s x) ⊎ (Waits (after s x) × (left (after s x) < left s)))
   where
     count-down : (xs : List Turn) (s : Sender) → Waits s → MuteStaysSet xs → By (left s) P (log s xs)
     count-down [] s w m = by-none (left s) P (some s w)
     count-down (x ∷ xs) s w m = go (count-down xs s w (m .1)) (λ v. count-down xs (after s x) v (m .1)) (turn-cases s x)
       where
         e : Entry
-        e = record { found = s; turn = x }
+        e = entryOf s x
 
         sent : (Waits (after s x) → By (left (after s x)) P (log (after s x) xs))
             → P e ⊎ (Waits (after s x) × (left (after s x) < left s)) → By (left s) P (e ∷ log (after s x) xs)
@@ -77,13 +77,13 @@ unfolding ruleOf
 mute-rule s mute d h m = rw (d, h, m)
 
 mute-moves : (s : Sender) (x : Turn) (rule : Rule) → sounding s ≡ true → x .call .mute ≡ true → Went s x rule
-    → MuteGone (record { found = s; turn = x })
+    → MuteGone (entryOf s x)
     ⊎ ((sounding (after s x) ≡ true) × (callsLeft (itemDue (after s x)) < callsLeft (itemDue s)))
 unfolding planBy
 mute-moves s x rule h m w = go (itemDue s) refl
   where
     go : (due : Bool) → itemDue s ≡ due
-        → MuteGone (record { found = s; turn = x })
+        → MuteGone (entryOf s x)
         ⊎ ((sounding (after s x) ≡ true) × (callsLeft (itemDue (after s x)) < callsLeft (itemDue s)))
     go true d =
         let i : Went s x AsItem = subst (λ (q : Rule). Went s x q) (w .goes .rule ∙ item-rule s (x .call .mute) d) w in

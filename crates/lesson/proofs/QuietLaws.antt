@@ -2,7 +2,6 @@
 -- fresh reader is in step with a fresh sender after six blocks. So what the laws of coming into step suppose can be met.
 use mathlib.Core.Path.{_≡_, refl, ap}
 use mathlib.Core.Bool.{true, false}
-use mathlib.Core.List.{List, [], _∷_}
 use Prim.Native.Nat.{ℕ, zero, suc}
 use native.Mathlib.Omega.{arith}
 use lib.ListN.{length, replicate}

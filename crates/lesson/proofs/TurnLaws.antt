@@ -14,7 +14,7 @@ use Rattle.sender.specs.declared.Verdict.{Verdict}
 use Rattle.sender.specs.declared.Verdict.the-variants.{Refuse, Goes}
 use Rattle.sender.specs.declared.Answer.the-variants.{Refused}
 use Rattle.sender.proofs.GoesLaws.{Goes-by, goes-by}
-use Rattle.lesson.specs.Session.{Turn, turned, after, log}
+use Rattle.lesson.specs.Session.{Turn, turned, after, log, entryOf}
 
 pub record Stayed (s : Sender) (x : Turn) : Type 0 where
   pub why : Refusal
@@ -43,7 +43,7 @@ pub log-stayed : (s : Sender) (x : Turn) (xs : List Turn) → Stayed s x → log
 log-stayed s x xs w = rw (w .answer, w .state)
 
 pub log-went : (s : Sender) (x : Turn) (xs : List Turn) (rule : Rule) → Went s x rule
-    → log s (x ∷ xs) ≡ record { found = s; turn = x } ∷ log (after s x) xs
+    → log s (x ∷ xs) ≡ entryOf s x ∷ log (after s x) xs
 unfolding planBy
 log-went s x xs AsItem w = rw (w .answer)
 log-went s x xs MuteOff w = rw (w .answer)

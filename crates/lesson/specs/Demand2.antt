@@ -37,7 +37,7 @@ use Rattle.reader.specs.declared.Outcome.{Outcome}
 use Rattle.reader.specs.declared.Answer.the-variants.{Block}
 use Rattle.reader.specs.declared.Standing.the-variants.{Read}
 use Rattle.reader.specs.declared.Verdict.the-variants.{None, Good}
-use Rattle.lesson.specs.Session.{Turn, turned, after, accepted, Entry, log, blockSent}
+use Rattle.lesson.specs.Session.{Turn, turned, after, accepted, Entry, log, blockSent, entryOf}
 
 -- ---- the octets
 -- the word that an accepted call sends
@@ -199,5 +199,5 @@ ComesIntoStep = (s : Sender) (r : Reader) (xs : List Turn) → sending.stateInRa
 -- and one that missed commands is in step after neutral
 abbrev pub JoinsAtNeutral : Type 0
 JoinsAtNeutral = (s : Sender) (r : Reader) (x : Turn) → x .call .code < 256 → accepted ((turned s x) .outcome .answer) ≡ true
-    → (let e : Entry = record { found = s; turn = x } in
+    → (let e = entryOf s x in
     Placed s r → itemDue s ≡ false → wordOf e ≡ neutral → InStep (after s x) (readerAfter r e))

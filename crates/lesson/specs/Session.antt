@@ -53,6 +53,9 @@ pub record Entry : Type 0 where
   pub found : Sender
   pub turn : Turn
 
+abbrev pub entryOf : Sender → Turn → Entry
+entryOf s x = record { found = s; turn = x }
+
 abbrev pub noted : Bool → Entry → List Entry → List Entry
 noted true e es = e ∷ es
 noted false e es = es
@@ -60,7 +63,7 @@ noted false e es = es
 -- the accepted calls of a session
 abbrev pub log : Sender → List Turn → List Entry
 log s [] = []
-log s (x ∷ xs) = noted (accepted ((turned s x) .outcome .answer)) (record { found = s; turn = x }) (log (after s x) xs)
+log s (x ∷ xs) = noted (accepted ((turned s x) .outcome .answer)) (entryOf s x) (log (after s x) xs)
 
 -- the block that an accepted call wrote
 abbrev pub blockSent : Entry → List ℕ

@@ -2,6 +2,7 @@
 use mathlib.Core.Path.{_≡_, refl, sym, ap, subst, _∙_}
 use mathlib.Core.Bool.{Bool, true, false, cond}
 use mathlib.Core.List.{List, [], _++_, append-nil, append-assoc}
+use Prim.Native.String.{String}
 use Prim.Native.Nat.{ℕ, zero, suc, _+_, _*_, _-_, _≤_, _<_}
 use native.Mathlib.Omega.{arith}
 use lib.Dec.{ltb}
@@ -211,13 +212,14 @@ block-length count report h =
     simp length-append
     (omega (arith, decimal-three count h, standing-length (report .standing), verdict-length (report .verdict), code-length (report .reading)))
 
-found-length : (p : ℕ) → p < 100000 → length (numberLine "found " p) ≤ 12
+-- a line of a word and a number, whatever the word
+number-length : (word : String) (k n : ℕ) → length (textOf word) ≤ k → n < 100000 → length (numberLine word n) ≤ k + 6
 unfolding textOf
-found-length p h = simp length-append (omega (arith, decimal-five p h))
+number-length word k n w h = simp length-append (omega (arith, w, decimal-five n h))
 
-left-length : (n : ℕ) → n < 100000 → length (numberLine "left " n) ≤ 11
+words-length : (length (textOf "found ") ≤ 6) × (length (textOf "left ") ≤ 5) × (length (textOf "none ") ≤ 5)
 unfolding textOf
-left-length n h = simp length-append (omega (arith, decimal-five n h))
+words-length = (omega arith, omega arith, omega arith)
 
 -- so the lines of a walk from a place on take a fifth of the octets left, and a little more
 abbrev Short : List ℕ → ℕ → Type 0
@@ -232,7 +234,7 @@ module _ (recording : List ℕ) (small : length recording ≤ 65536) (n : ℕ) (
       length (lineOf a count ++ cond (isLast a) [] (linesFrom n recording (placeBy a place) (lostBy a lost) (readerBy a recording place s) (countAfter a count)))
 
   end-short : length (numberLine "left " (leftFrom recording place) ++ []) ≤ 11
-  end-short = rw (append-nil (numberLine "left " (leftFrom recording place))) (left-length (leftFrom recording place) (omega arith))
+  end-short = rw (append-nil (numberLine "left " (leftFrom recording place))) (number-length "left " 5 (leftFrom recording place) (words-length .1) (omega arith))
 
   found-short : (f : Found) → searchOf recording place ≡ f
       → 5 * Taken true (foundAgain f (leftFrom recording place)) + place ≤ length recording + 60 * digit true + 60
@@ -240,7 +242,7 @@ module _ (recording : List ℕ) (small : length recording ≤ 65536) (n : ℕ) (
       let f = found-fits recording place p e in
       let rest = shorter p false s count (omega (arith, f .2)) (omega (arith, f .1)) in
       rw (length-append (numberLine "found " p) (linesFrom n recording p false s count))
-      (omega (arith, found-length p (omega (arith, f .2)), rest, f .1))
+      (omega (arith, number-length "found " 6 p (words-length .0) (omega (arith, f .2)), rest, f .1))
   found-short (Found.Refused why) e = omega (arith, end-short)
 
   block-short : (b : Bool) → ltb (leftFrom recording place) 160 ≡ b
@@ -261,10 +263,6 @@ short recording small (suc n) place true s count h low =
 short recording small (suc n) place false s count h low =
     block-short recording small n (short recording small n) place s count h low (ltb (leftFrom recording place) 160) refl
 
-none-length : (n : ℕ) → n < 100000 → length (numberLine "none " n) ≤ 11
-unfolding textOf
-none-length n h = simp length-append (omega (arith, decimal-five n h))
-
 refusal-small : (why : Refusal) → finding.numberOf why < 100000
 refusal-small RecordingLength = omega arith
 refusal-small NoPlace = omega arith
@@ -279,8 +277,8 @@ listing-fits recording = go (searchOf recording 0) refl
         let f = found-fits recording 0 p e in
         let small = found-small recording 0 p e in
         rw (length-append (numberLine "found " p) (linesFrom (length recording) recording p false begun 0))
-        (omega (arith, found-length p (omega (arith, f .2)), small, short recording small (length recording) p false begun 0 (omega (arith, f .2)) (omega arith)))
-    go (Found.Refused why) e = omega (arith, none-length (finding.numberOf why) (refusal-small why))
+        (omega (arith, number-length "found " 6 p (words-length .0) (omega (arith, f .2)), small, short recording small (length recording) p false begun 0 (omega (arith, f .2)) (omega arith)))
+    go (Found.Refused why) e = omega (arith, number-length "none " 5 (finding.numberOf why) (words-length .2) (refusal-small why))
 
 pub listed-fits : {r : ℕ} {was text : List ℕ} (recording : List ℕ) → Written 0 (listingOf recording) was r text → 16384 ≤ length was → r ≤ length text
 listed-fits recording w room = omega (arith, w .place, listing-fits recording, written-length w)
