@@ -433,6 +433,31 @@ static void walk_over_a_loss(void) {
     CHECK(got.answer.kind == DELAMPUK_STEP_BLOCK && got.answer.block.standing == DELAMPUK_WAITING && got.reader.before != 0);
 }
 
+/* ---- the listing ---- */
+
+static uint8_t text[DELAMPUK_TEXT_MAX + 1];
+
+/* The listing of the recording's first octets is these words, written into so many octets of text, and the octet after them stays. */
+static void lists(size_t length, const char *words, size_t room) {
+    size_t whole = strlen(words);
+    memset(text, 0x5A, sizeof text);
+    size_t answer = delampuk_list(recording, length, text, room);
+    CHECK(answer == (whole <= room ? whole : room + 1));
+    CHECK(memcmp(text, words, whole <= room ? whole : room) == 0);
+    CHECK(text[whole <= room ? whole : room] == 0x5A);
+}
+
+static void listings(void) {
+    record();
+    lists(0, "none 9\n", DELAMPUK_TEXT_MAX);
+    lists(NOISE + 168, "found 5\n0 waiting none --\nleft 8\n", DELAMPUK_TEXT_MAX);
+    lists(NOISE + 168, "found 5\n0 waiting none --\nleft 8\n", 13);
+    lists(NOISE + 168, "found 5\n0 waiting none --\nleft 8\n", 0);
+    for (int i = 0; i < 3; i++)
+        recording[NOISE + i * DELAMPUK_LINE + 1] ^= 1;
+    lists(NOISE + 2 * DELAMPUK_LINE + 8, "none 10\n", DELAMPUK_TEXT_MAX);
+}
+
 int main(void) {
     first_block();
     switches();
@@ -446,6 +471,7 @@ int main(void) {
     searching();
     steps_to_an_end();
     walk_over_a_loss();
+    listings();
     printf("%d passed, %d failed\n", passed, failed);
     return failed != 0;
 }

@@ -12,6 +12,7 @@
  *   'L' u64 start, length n, n recording                                   number, u64 place, kept
  *   'W' reader, lost, u64 place, lengths n v d,                            reader, lost, u64 place, kind, number, block, u64 value, kept,
  *       n recording, v voice, d lsd                                        v voice, d lsd
+ *   'T' lengths n m, n recording, m text                                   u64 length, kept, m text
  *   'G' u16 bits                                                           sender, offer, number
  *   'P' sender                                                             u16 bits, number
  *
@@ -174,6 +175,19 @@ static void serve_step(void) {
     give(lsd, lsds);
 }
 
+static void serve_listing(void) {
+    size_t length = take_number(4), room = take_number(4);
+    const uint8_t *recording = lend(length);
+    uint8_t *text = lend(room);
+    if (cut_short)
+        return;
+    before_call();
+    give_number(delampuk_list(recording, length, text, room), 8);
+    may_change(text, room);
+    give_kept();
+    give(text, room);
+}
+
 static void serve_read_preset(void) {
     struct delampuk_preset_outcome got = delampuk_read_preset((uint16_t)take_number(2));
     give(&got.state, sizeof got.state);
@@ -209,6 +223,9 @@ static int serve(uint8_t name) {
         break;
     case 'W':
         serve_step();
+        break;
+    case 'T':
+        serve_listing();
         break;
     case 'G':
         serve_read_preset();

@@ -7,7 +7,7 @@
  * What the caller owes, for each call:
  *   - A buffer is a pointer and a length in octets. The pointer is not null, even where the length is 0, and that many octets behind it
  *     are there for the whole call. They are lent: the caller owns them before and after.
- *   - What a call writes (a state behind a pointer; line, voice or lsd where not const) overlaps nothing else that the call is given, and
+ *   - What a call writes (a state behind a pointer; line, voice, lsd or text where not const) overlaps nothing else that the call is given, and
  *     nobody else reads or writes it during the call. Buffers that are const may overlap each other.
  *   - A state is filled in: by a fresh state, a preset, a call before, or a saved copy. Its octets may be any; one out of range is
  *     refused with 1. A refused delampuk_send stores the state's own octets again, so it must lie in memory that can be written.
@@ -190,6 +190,13 @@ struct delampuk_step_outcome {
 struct delampuk_step_outcome delampuk_step(const uint8_t *recording, size_t length, size_t place, uint8_t lost,
                                            struct delampuk_reader state, uint8_t *voice, size_t voice_length, uint8_t *lsd,
                                            size_t lsd_length);
+
+/* The listing of a recording, octet for octet what the program `listing` writes: a line of ASCII for each place found, each block and the
+ * octets left, each with a newline, and no zero at the end. Writes it into text and answers its length, 16,384 at most. Where text is too
+ * short the answer is text_length + 1, and text holds what fits. Nothing is refused: the listing itself tells a refused search. */
+enum { DELAMPUK_TEXT_MAX = 16384 };
+
+size_t delampuk_list(const uint8_t *recording, size_t length, uint8_t *text, size_t text_length);
 
 /* ---- Example: one block out, and the same block in --------------------------------------------------------------------------------
  *

@@ -9,6 +9,8 @@ ghost use Rattle.sender.specs.Presets.{presetRead, presetWritten};
 ghost use Rattle.reader.specs.State.{freshIn};
 ghost use Rattle.reader.specs.Step.{outcomeOf, voiceOf, lsdOf};
 ghost use Rattle.recording.specs.Walk.{stepAt, voiceAt, lsdAt};
+ghost use Rattle.text.specs.Over.{Written};
+ghost use Rattle.lines.specs.Listing.{listingOf};
 ghost use Rattle.card.specs.Sending.{on, sendAnswerOf, sent, lineSent};
 ghost use Rattle.card.specs.Reading.{standingNumber, verdictNumber, readingKind, readingCode, blockAnswerOf, nothingRead, readAnswerOf, readOutcomeOf};
 ghost use Rattle.card.specs.Walking.{searchAnswerOf, stepAnswerOf, markAfter, stepOutcomeOf};
@@ -456,4 +458,13 @@ pub extern "C" fn delampuk_step(
         place: stands,
         answer: told,
     }
+}
+
+// The listing of a recording as text, and how long it is: the text's length and one more where it does not fit, and then what fits is
+// written.
+#[no_mangle]
+pub extern "C" fn delampuk_list(recording: &[u8], text: &mut [u8]) -> usize
+    ensures { λ r. ⌜ Written 0 (listingOf (now (recording .entry))) (now (text .entry)) r (now (text .exit)) ⌝ }
+{
+    lines::list(recording, text)
 }
