@@ -26,7 +26,7 @@ fn code(random: &mut Random) -> u8 {
     match random.below(10) {
         0..=2 => random.pick(&[0, 11, 18, 19, 20, 21, 24, 25, 27, 28, 29, 31]),
         3..=5 => 0x60 | random.below(15) as u8,
-        6 => 0xE0 | random.octet() % 32,
+        6 => 0xE0 | (random.octet() % 32),
         7 => random.pick(&[0x1F, 0x20, 0x80, 0xBF, 0xDF]),
         _ => random.octet(),
     }

@@ -1,0 +1,152 @@
+//! Recordings of a line: where their blocks begin, and a walk from block to block.
+
+use std::iter::FusedIterator;
+
+use crate::ffi;
+use crate::reader::{Block, Reader};
+use crate::refusal::{unknown, Refusal};
+use crate::{LSD, VOICE};
+
+/// The first octet from `start` on where a block begins, counted from the recording's own first octet.
+///
+/// # Errors
+///
+/// Refusal 9 for a recording of more than [`RECORDING_MAX`](crate::RECORDING_MAX) octets, or where fewer than 168 are
+/// left from `start` on; 10 where no block begins.
+pub fn search(recording: &[u8], start: usize) -> Result<usize, Refusal> {
+    let answer = ffi::search(recording, start);
+    Refusal::unless_zero(answer.number)?;
+    Ok(answer.place)
+}
+
+/// What a step of a walk came to.
+#[derive(Clone, Copy, Debug, PartialEq, Eq, Hash)]
+pub enum Step {
+    /// A block was taken, and the walk stands after it.
+    Block(Block),
+    /// After a lost block, blocks begin again at this octet of the recording, and the walk stands there.
+    Place(usize),
+    /// Nothing more can be read: so many octets are left. The walk has not moved.
+    End(usize),
+}
+
+/// A walk over a recording, one block a step, with the reader that takes the blocks.
+///
+/// It is walked by [`Walk::step`], or iterated over: each step comes with its streams, and the last is
+/// [`Step::End`] or a refusal.
+#[derive(Clone, Debug, PartialEq, Eq)]
+pub struct Walk<'a> {
+    recording: &'a [u8],
+    place: usize,
+    lost: u8,
+    reader: Reader,
+}
+
+impl<'a> Walk<'a> {
+    /// The length of a saved walk.
+    pub const OCTETS: usize = Reader::OCTETS + 9;
+
+    /// A walk from the first place where a block begins, with a new reader.
+    ///
+    /// # Errors
+    ///
+    /// Refusals 9 and 10, as [`search`] has them.
+    pub fn new(recording: &'a [u8]) -> Result<Walk<'a>, Refusal> {
+        let place = search(recording, 0)?;
+        Ok(Walk::from_place(recording, place, Reader::new()))
+    }
+
+    /// A walk from any place on, with a reader that has perhaps read before.
+    pub fn from_place(recording: &'a [u8], place: usize, reader: Reader) -> Walk<'a> {
+        Walk { recording, place, lost: 0, reader }
+    }
+
+    /// One step: the block at the place where the walk stands; after a lost one the next place where a block begins;
+    /// or the end. Only a block moves the reader and writes `voice` and `lsd`, as [`Reader::read`] does.
+    ///
+    /// # Errors
+    ///
+    /// Refusals 1, 3, 4 and 9; the walk, `voice` and `lsd` are then as they were.
+    pub fn step(&mut self, voice: &mut [u8], lsd: &mut [u8]) -> Result<Step, Refusal> {
+        let outcome = ffi::step(self.recording, self.place, self.lost, self.reader.state, voice, lsd);
+        self.place = outcome.place;
+        self.lost = outcome.lost;
+        self.reader.state = outcome.reader;
+        Refusal::unless_zero(outcome.answer.number)?;
+        match outcome.answer.kind {
+            0 => Ok(Step::Block(Block::from_answer(&outcome.answer.block))),
+            1 => Ok(Step::Place(outcome.answer.value)),
+            2 => Ok(Step::End(outcome.answer.value)),
+            kind => unknown("step", kind),
+        }
+    }
+
+    /// The octet of the recording where the walk stands.
+    pub fn place(&self) -> usize {
+        self.place
+    }
+
+    /// The reader as the last block left it.
+    pub fn reader(&self) -> &Reader {
+        &self.reader
+    }
+
+    /// The walk as octets, to be saved: the reader's, the mark of a lost block, and the place, lowest octet first.
+    /// The recording is not among them.
+    pub fn to_octets(&self) -> [u8; Walk::OCTETS] {
+        let mut octets = [0; Walk::OCTETS];
+        octets[..12].copy_from_slice(&self.reader.to_octets());
+        octets[12] = self.lost;
+        octets[13..].copy_from_slice(&self.place.to_le_bytes());
+        octets
+    }
+
+    /// A walk over `recording` that was saved. Any octets are taken; its steps refuse with 1 where the reader is out
+    /// of range, and with 9 where the place is.
+    pub fn from_octets(recording: &'a [u8], octets: [u8; Walk::OCTETS]) -> Walk<'a> {
+        let [reader @ .., lost, p0, p1, p2, p3, p4, p5, p6, p7] = octets;
+        let place = usize::from_le_bytes([p0, p1, p2, p3, p4, p5, p6, p7]);
+        Walk { recording, place, lost, reader: Reader::from_octets(reader) }
+    }
+}
+
+/// The streams that a step handed out: those of a block, or zeros where it read none.
+#[derive(Clone, Debug, PartialEq, Eq)]
+pub struct Streams {
+    /// The voice.
+    pub voice: [u8; VOICE],
+    /// The data.
+    pub lsd: [u8; LSD],
+}
+
+/// The steps of a walk, each with its streams.
+#[derive(Clone, Debug)]
+pub struct Steps<'a> {
+    /// None after the last step.
+    walk: Option<Walk<'a>>,
+}
+
+impl<'a> IntoIterator for Walk<'a> {
+    type Item = Result<(Step, Streams), Refusal>;
+    type IntoIter = Steps<'a>;
+
+    fn into_iter(self) -> Steps<'a> {
+        Steps { walk: Some(self) }
+    }
+}
+
+impl Iterator for Steps<'_> {
+    type Item = Result<(Step, Streams), Refusal>;
+
+    fn next(&mut self) -> Option<Self::Item> {
+        let mut walk = self.walk.take()?;
+        let mut streams = Streams { voice: [0; VOICE], lsd: [0; LSD] };
+        let step = walk.step(&mut streams.voice, &mut streams.lsd);
+        if matches!(step, Ok(Step::Block(_) | Step::Place(_))) {
+            self.walk = Some(walk);
+        }
+        Some(step.map(|step| (step, streams)))
+    }
+}
+
+impl FusedIterator for Steps<'_> {}

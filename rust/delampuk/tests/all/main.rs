@@ -1,0 +1,8 @@
+//! The wrapper as a program uses it.
+
+mod common;
+mod lesson;
+mod presets;
+mod refusals;
+mod saved;
+mod walking;
