@@ -8,7 +8,7 @@ pub fn bit(octet: u8, number: usize) -> bool {
 
 /// The bits of `octets` in sending order.
 pub fn from_octets(octets: &[u8]) -> Vec<bool> {
-    octets.iter().flat_map(|&octet| (1..=8).map(move |number| bit(octet, number))).collect()
+    (0..8 * octets.len()).map(|index| bit(octets[index / 8], index % 8 + 1)).collect()
 }
 
 /// Bits packed into octets, most significant first; a last part of an octet is filled with zeros.

@@ -61,9 +61,11 @@ pub fn owner(mode: Mode, octet: usize, bit: usize) -> Owner {
 
 /// All places of a block in sending order.
 pub fn places() -> impl Iterator<Item = Place> {
-    [Half::Even, Half::Odd]
-        .into_iter()
-        .flat_map(|half| (1..=80).flat_map(move |octet| (1..=8).map(move |bit| Place { half, octet, bit })))
+    (0..8 * BLOCK_OCTETS).map(|index| Place {
+        half: if index < 4 * BLOCK_OCTETS { Half::Even } else { Half::Odd },
+        octet: index / 8 % 80 + 1,
+        bit: index % 8 + 1,
+    })
 }
 
 /// The 1,280 bits of a block.
