@@ -1,5 +1,5 @@
 # `make demo` shows what the library does, `make test` runs every check, and `make soak` compares the library with the model in Rust for
-# longer: CASES and SEED can be given.
+# longer: CASES (linked into one process), SERVED (called in C, through a server) and SEED can be given.
 .PHONY: demo test soak
 
 demo:
@@ -12,7 +12,11 @@ demo:
 test:
 	@sh tools/test
 
-soak: export CASES ?= 1000000
+soak: CASES ?= 1000000
+soak: SERVED ?= 100000
+soak: compare = cargo test --offline --release --manifest-path rust/Cargo.toml -p differential
 soak:
+	@sh tools/native
 	@sh tools/serve build
-	@cargo test --offline --release --manifest-path rust/Cargo.toml -p differential -- --nocapture
+	@CASES=$(CASES) $(compare) --test linked -- --nocapture
+	@CASES=$(SERVED) $(compare) --test server -- --nocapture

@@ -6,36 +6,36 @@ use std::env;
 use model::vectors::random::Random;
 
 use crate::calls::Call;
-use crate::server::Server;
-
-/// Cases of a test of share 1 where `CASES` does not say otherwise.
-const CASES: u64 = 30_000;
+use crate::library::Library;
 
 /// The seed where `SEED` does not say otherwise.
 const SEED: u64 = 221;
 
 /// A case that is under way.
-pub struct Trial<'a> {
+pub struct Trial<'a, L> {
     /// Where its inputs are drawn from.
     pub random: Random,
-    server: &'a mut Server,
+    library: &'a mut L,
     name: &'a str,
     seed: u64,
     number: u64,
     reached: &'a mut Reached,
 }
 
-impl Trial<'_> {
+impl<L: Library> Trial<'_, L> {
     /// Makes a call and holds what it leaves to the model; a difference ends the test.
     pub fn call<C: Call>(&mut self, call: &C) -> C::Left {
-        let left = self.server.call(call);
+        let left = self.library.call(call);
         let expected = call.expected();
         self.reached.calls += 1;
         self.reached.outcomes.extend(C::outcome(&left));
         if left != expected {
             let again = format!(
-                "SEED={} CASE={} cargo test --offline --release -p differential {}",
-                self.seed, self.number, self.name
+                "SEED={} CASE={} cargo test --offline --release -p differential --test {} {}",
+                self.seed,
+                self.number,
+                L::TEST,
+                self.name
             );
             panic!("the library and the model differ\nagain:   {again}\ncall:    {call:?}\nlibrary: {left:?}\nmodel:   {expected:?}");
         }
@@ -61,18 +61,18 @@ impl Reached {
 }
 
 /// Runs the cases of the test `name`. One with a share of 10 has a tenth of the cases, as its own are longer.
-pub fn run(name: &str, share: u64, case: impl Fn(&mut Trial)) -> Reached {
+pub fn run<L: Library>(name: &str, share: u64, case: impl Fn(&mut Trial<L>)) -> Reached {
     let seed = setting("SEED").unwrap_or(SEED);
-    let count = (setting("CASES").unwrap_or(CASES) / share).max(1);
+    let count = (setting("CASES").unwrap_or(L::CASES) / share).max(1);
     let numbers = match setting("CASE") {
         Some(number) => number..number + 1,
         None => 0..count,
     };
-    let mut server = Server::start();
+    let mut library = L::start();
     let mut reached = Reached::default();
     for number in numbers.clone() {
         let random = random(name, seed, number);
-        case(&mut Trial { random, server: &mut server, name, seed, number, reached: &mut reached });
+        case(&mut Trial { random, library: &mut library, name, seed, number, reached: &mut reached });
     }
     println!("{name}: {} calls in {} cases", reached.calls, numbers.end - numbers.start);
     reached

@@ -2,8 +2,8 @@
 
 use model::codes::{Mode, AUDIO_OFF};
 use model::frame::{BLOCK_OCTETS, DATA_OCTETS, VOICE_OCTETS};
-use model::sender::{self, SenderState};
-use model::service::{self, Flags};
+use model::sender::SenderState;
+use model::service;
 use model::vectors::forge::{first_bits_before, Line};
 use model::vectors::random::Random;
 use model::{bas, bits};
@@ -195,27 +195,28 @@ fn damage_alignment(random: &mut Random, line: &mut Line) {
     }
 }
 
-/// So many blocks of the model's sender; the first seven are idle in most sessions, so that commands are read.
+/// So many blocks; the first seven are idle in most sessions, so that commands are read. The library's own sender
+/// makes them, since it is fast and other tests hold it to the model; what comes of a session is the model's to say.
 pub fn session(random: &mut Random, blocks: usize) -> Vec<u8> {
     let idle = if random.percent(80) { 7 } else { 0 };
-    let mut state = SenderState::FRESH;
+    let mut sender = delampuk::Sender::new();
     let mut session = Vec::new();
-    // Refused codes are followed by others; the bound is never met unless the model's state has gone wrong.
+    // Refused codes are followed by others; the bound is never met unless the sender has gone wrong.
     for _ in 0..100 * blocks {
         if session.len() == blocks * BLOCK_OCTETS {
             return session;
         }
-        let offered = if session.len() < idle * BLOCK_OCTETS { 0x80 } else { code(random) };
+        let code = if session.len() < idle * BLOCK_OCTETS { 0x80 } else { code(random) };
         let [a, e, t] = [(); 3].map(|()| random.percent(50));
-        let (voice, data) = (random.octets(VOICE_OCTETS), random.octets(DATA_OCTETS));
+        let (voice, lsd) = (random.octets(VOICE_OCTETS), random.octets(DATA_OCTETS));
         let mute = random.percent(20);
-        let call = sender::Call { mute, offered, flags: Flags { a, e, t }, voice: &voice, data: &data };
+        let call = delampuk::Call { mute, code, a, e, t };
         let mut line = [0; BLOCK_OCTETS];
-        if sender::send(&mut state, &call, &mut line).is_ok() {
+        if sender.send(&call, &voice, &lsd, &mut line).is_ok() {
             session.extend(line);
         }
     }
-    panic!("the model's sender refuses every code in {state:?}")
+    panic!("the library's sender refuses every code in {sender:?}")
 }
 
 /// Damages a recording in place, or slips it by some octets.
@@ -293,14 +294,14 @@ pub fn recording(random: &mut Random) -> Vec<u8> {
 }
 
 /// An octet of a recording, or one past its end, far past it too.
-pub fn place(random: &mut Random, length: usize) -> u64 {
+pub fn place(random: &mut Random, length: usize) -> usize {
     match random.below(20) {
-        0 => random.pick(&[u64::MAX, u64::MAX - 160, u64::MAX - 167, 1 << 63, 1 << 32, (1 << 32) - 1]),
-        1 => random.bits(),
-        2 | 3 => (length + random.below(200)) as u64,
-        4..=6 => length.saturating_sub(random.below(340)) as u64,
+        0 => random.pick(&[usize::MAX, usize::MAX - 160, usize::MAX - 167, 1 << 63, 1 << 32, (1 << 32) - 1]),
+        1 => random.bits() as usize,
+        2 | 3 => length + random.below(200),
+        4..=6 => length.saturating_sub(random.below(340)),
         7..=12 => 0,
-        _ => random.below(length + 1) as u64,
+        _ => random.below(length + 1),
     }
 }
 

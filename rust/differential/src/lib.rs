@@ -1,8 +1,10 @@
-//! Compares the library, called through its C interface, with the model of document 01, call by call.
+//! Compares the library with the model of document 01, call by call: what a call leaves (answer, state, buffers)
+//! must equal what the model says, octet for octet. There are two ways to the library:
 //!
-//! The library is an archive for x86-64 and this crate is built for any machine, so that calls go to a process:
-//! `c/serve.c`, linked with the archive, which `tools/serve` starts, in an emulator where one is needed. What a
-//! call leaves (answer, state, buffers) must equal what the model says, octet for octet.
+//! - [`server`]: the archive for x86-64, called in C by a process, `c/serve.c`, which `tools/serve` starts, in an
+//!   emulator where one is needed. Each number that crosses to C is compared as it is.
+//! - [`linked`]: the archive for this machine's processor, called through the wrapper `delampuk`, so quickly that most
+//!   of the time goes to the model and many more cases can be tried.
 //!
 //! Cases are drawn from a seed. `SEED` chooses another one, `CASES` how many cases are tried, and `CASE` a single
 //! one of them, as a difference prints it.
@@ -10,5 +12,7 @@
 pub mod calls;
 pub mod cases;
 pub mod draw;
+pub mod library;
+pub mod linked;
 pub mod server;
 pub mod states;

@@ -5,6 +5,7 @@ use std::path::Path;
 use std::process::{Child, ChildStdin, ChildStdout, Command, Stdio};
 
 use crate::calls::Call;
+use crate::library::Library;
 
 /// A running server.
 pub struct Server {
@@ -13,11 +14,14 @@ pub struct Server {
     from: BufReader<ChildStdout>,
 }
 
-impl Server {
+impl Library for Server {
+    const TEST: &'static str = "server";
+    const CASES: u64 = 30_000;
+
     /// Starts `tools/serve`, or the script or program that `DELAMPUK_SERVE` names.
     ///
     /// Without a server there is nothing to compare with, and a test that cannot compare has failed.
-    pub fn start() -> Server {
+    fn start() -> Server {
         let root = Path::new(env!("CARGO_MANIFEST_DIR")).join("../..");
         let mut command = match std::env::var_os("DELAMPUK_SERVE") {
             Some(program) => Command::new(program),
@@ -34,13 +38,14 @@ impl Server {
         Server { child, to, from }
     }
 
-    /// Makes a call, and tells what it leaves.
-    pub fn call<C: Call>(&mut self, call: &C) -> C::Left {
+    fn call<C: Call>(&mut self, call: &C) -> C::Left {
         self.exchange(call).unwrap_or_else(|error| {
             panic!("the server does not answer ({error}); `sh tools/serve build` builds it\n{call:?}")
         })
     }
+}
 
+impl Server {
     fn exchange<C: Call>(&mut self, call: &C) -> io::Result<C::Left> {
         let mut request = Request::default();
         call.request(&mut request);
@@ -72,7 +77,7 @@ impl Request {
     }
 
     /// Adds a number of eight octets.
-    pub fn number(&mut self, number: u64) -> &mut Request {
+    pub fn number(&mut self, number: usize) -> &mut Request {
         self.octets(&number.to_le_bytes())
     }
 
@@ -108,8 +113,8 @@ impl Answer<'_> {
     }
 
     /// The next number of eight octets.
-    pub fn number(&mut self) -> io::Result<u64> {
-        self.array().map(u64::from_le_bytes)
+    pub fn number(&mut self) -> io::Result<usize> {
+        self.array().map(usize::from_le_bytes)
     }
 
     /// A buffer of so many octets.

@@ -1,8 +1,9 @@
 //! `delampuk_send`.
 
 use differential::calls::{Fresh, Send};
-use differential::cases::{run, Trial};
 use differential::draw;
+
+use super::{run, Trial};
 
 #[test]
 fn fresh_states() {

@@ -1,9 +1,10 @@
 //! `delampuk_read`.
 
-use differential::cases::{run, Trial};
 use differential::draw;
 use differential::states::{self, Reader};
 use model::reader::ReaderState;
+
+use super::{run, Trial};
 
 #[test]
 fn reader_steps() {

@@ -1,12 +1,13 @@
 //! `delampuk_step`.
 
 use differential::calls::{Octets, WalkStep};
-use differential::cases::{run, Trial};
 use differential::draw;
 use differential::states;
 use model::frame::{BLOCK_OCTETS, DATA_OCTETS, VOICE_OCTETS};
 use model::reader::ReaderState;
 use model::recording;
+
+use super::{run, Trial};
 
 const END: u8 = 2;
 
@@ -45,7 +46,7 @@ fn walk(trial: &mut Trial, recording: Vec<u8>) {
     let mut step = WalkStep {
         state: states::reader_octets(&ReaderState::FRESH).expect("the library has a fresh state"),
         lost: 0,
-        place: place as u64,
+        place,
         recording: Octets(recording),
         voice: Octets(vec![0xA5; VOICE_OCTETS]),
         lsd: Octets(vec![0x5A; DATA_OCTETS]),
@@ -81,7 +82,7 @@ fn steps_in_long_recordings() {
         let call = WalkStep {
             state: draw::reader_in_range(&mut trial.random),
             lost: draw::switch(&mut trial.random),
-            place: (place - back) as u64,
+            place: (place - back),
             recording: Octets(recording),
             voice: Octets(trial.random.octets(VOICE_OCTETS)),
             lsd: Octets(trial.random.octets(DATA_OCTETS)),

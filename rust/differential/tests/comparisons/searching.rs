@@ -1,8 +1,9 @@
 //! `delampuk_search`.
 
 use differential::calls::{Octets, Search};
-use differential::cases::run;
 use differential::draw;
+
+use super::run;
 
 #[test]
 fn searches() {
@@ -22,7 +23,7 @@ fn searches_near_the_end() {
         for length in 160..=336 {
             for start in [0, 1, length - 168.min(length), length - 167.min(length), length, length + 1] {
                 let recording = Octets(session[..length].to_vec());
-                trial.call(&Search { recording, start: start as u64 });
+                trial.call(&Search { recording, start });
             }
         }
     });

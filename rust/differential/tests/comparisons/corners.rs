@@ -1,10 +1,11 @@
 //! The model's corner cases, each made for a decision.
 
 use differential::calls::{Octets, Read, Search, Send, WalkStep, WritePreset};
-use differential::cases::{run, Trial};
 use differential::states;
 use model::vectors::case::{Case, ReaderCase, SenderCase, WalkCase};
 use model::vectors::corners;
+
+use super::{run, Trial};
 
 #[test]
 fn corner_cases() {
@@ -22,7 +23,7 @@ fn compare(trial: &mut Trial, case: Case) {
         Case::Reader(case) => compare_read(trial, case),
         Case::Walk(case) => compare_step(trial, case),
         Case::Search(recording, start) => {
-            trial.call(&Search { recording: Octets(recording), start: start as u64 });
+            trial.call(&Search { recording: Octets(recording), start });
         }
         Case::PresetWrite(state) => {
             trial.call(&WritePreset { state: states::sender_octets(&state) });
@@ -55,7 +56,7 @@ fn compare_step(trial: &mut Trial, case: WalkCase) {
         trial.call(&WalkStep {
             state,
             lost: case.searching.into(),
-            place: case.place as u64,
+            place: case.place,
             recording: Octets(case.recording),
             voice: Octets(case.voice),
             lsd: Octets(case.data),

@@ -1,8 +1,9 @@
 //! `delampuk_read_preset` and `delampuk_write_preset`.
 
 use differential::calls::{ReadPreset, WritePreset};
-use differential::cases::run;
 use differential::draw;
+
+use super::run;
 
 #[test]
 fn every_preset_is_read() {

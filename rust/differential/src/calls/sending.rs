@@ -1,0 +1,127 @@
+//! The fresh states, and `delampuk_send`.
+
+use std::io;
+
+use delampuk::Sent;
+use model::reader::ReaderState;
+use model::sender::{self, Answer as Fate, SenderState};
+use model::service::Flags;
+
+use super::{left_by_block, Call, Octets};
+use crate::linked::Room;
+use crate::server::{Answer, Request};
+use crate::states::{self, Reader, Sender};
+
+/// The two fresh states.
+#[derive(Debug)]
+pub struct Fresh;
+
+impl Call for Fresh {
+    type Left = (Sender, Reader);
+
+    fn request(&self, request: &mut Request) {
+        request.octets(b"F");
+    }
+
+    fn left(&self, answer: &mut Answer) -> io::Result<Self::Left> {
+        Ok((answer.array()?, answer.array()?))
+    }
+
+    fn linked(&self) -> Self::Left {
+        (delampuk::Sender::new().to_octets(), delampuk::Reader::new().to_octets())
+    }
+
+    fn expected(&self) -> Self::Left {
+        (states::sender_octets(&SenderState::FRESH), left_by_block(&ReaderState::FRESH))
+    }
+}
+
+/// `delampuk_send`.
+#[derive(Clone, Debug)]
+pub struct Send {
+    /// The lent state.
+    pub state: Sender,
+    /// The switch mute; as all switches 0 or any other number.
+    pub mute: u8,
+    /// The offered code.
+    pub code: u8,
+    /// The switches A, E and T.
+    pub flags: [u8; 3],
+    /// The voice buffer.
+    pub voice: Octets,
+    /// The data buffer.
+    pub lsd: Octets,
+    /// The line block as it is lent.
+    pub line: Octets,
+}
+
+/// What `delampuk_send` leaves.
+#[derive(Debug, PartialEq)]
+pub struct SendLeft {
+    /// Sent, held or refused.
+    pub kind: u8,
+    /// The refusal's number, or 0.
+    pub number: u8,
+    /// The state.
+    pub state: Sender,
+    /// Nothing else changed.
+    pub kept: u8,
+    /// The line block.
+    pub line: Octets,
+}
+
+impl Call for Send {
+    type Left = SendLeft;
+
+    fn request(&self, request: &mut Request) {
+        request.octets(b"S").octets(&self.state).octets(&[self.mute, self.code]).octets(&self.flags);
+        request.buffers(&[&self.voice.0, &self.lsd.0, &self.line.0]);
+    }
+
+    fn left(&self, answer: &mut Answer) -> io::Result<SendLeft> {
+        Ok(SendLeft {
+            kind: answer.octet()?,
+            number: answer.octet()?,
+            state: answer.array()?,
+            kept: answer.octet()?,
+            line: Octets(answer.buffer(self.line.0.len())?),
+        })
+    }
+
+    fn linked(&self) -> SendLeft {
+        let [a, e, t] = self.flags.map(|switch| switch != 0);
+        let call = delampuk::Call { mute: self.mute != 0, code: self.code, a, e, t };
+        let mut sender = delampuk::Sender::from_octets(self.state);
+        let mut room = Room::of([&self.voice, &self.lsd, &self.line]);
+        let [voice, lsd, line] = room.lend();
+        let (kind, number) = match sender.send(&call, voice, lsd, line) {
+            Ok(Sent::Sent) => (0, 0),
+            Ok(Sent::Held) => (1, 0),
+            Err(refusal) => (2, refusal.number()),
+        };
+        SendLeft { kind, number, state: sender.to_octets(), kept: room.kept([2]), line: room.buffer(2) }
+    }
+
+    fn expected(&self) -> SendLeft {
+        let [a, e, t] = self.flags.map(|switch| switch != 0);
+        let call = sender::Call {
+            mute: self.mute != 0,
+            offered: self.code,
+            flags: Flags { a, e, t },
+            voice: &self.voice.0,
+            data: &self.lsd.0,
+        };
+        let mut state = states::sender(self.state);
+        let mut line = self.line.clone();
+        let (kind, number, state) = match sender::send(&mut state, &call, &mut line.0) {
+            Ok(Fate::Sent) => (0, 0, states::sender_octets(&state)),
+            Ok(Fate::Held) => (1, 0, states::sender_octets(&state)),
+            Err(refusal) => (2, refusal.number(), self.state),
+        };
+        SendLeft { kind, number, state, kept: 1, line }
+    }
+
+    fn outcome(left: &SendLeft) -> Vec<String> {
+        vec![format!("kind {}", left.kind), format!("number {}", left.number)]
+    }
+}
