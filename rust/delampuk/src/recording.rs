@@ -94,10 +94,9 @@ impl<'a> Walk<'a> {
     /// The walk as octets, to be saved: the reader's, the mark of a lost block, and the place, lowest octet first.
     /// The recording is not among them.
     pub fn to_octets(&self) -> [u8; Walk::OCTETS] {
-        let mut octets = [0; Walk::OCTETS];
-        octets[..12].copy_from_slice(&self.reader.to_octets());
-        octets[12] = self.lost;
-        octets[13..].copy_from_slice(&self.place.to_le_bytes());
+        let mut octets = [self.lost; Walk::OCTETS];
+        octets[..Reader::OCTETS].copy_from_slice(&self.reader.to_octets());
+        octets[Reader::OCTETS + 1..].copy_from_slice(&self.place.to_le_bytes());
         octets
     }
 

@@ -1,5 +1,6 @@
 //! The wrapper as a program uses it.
 
+mod blocks;
 mod common;
 mod lesson;
 mod presets;

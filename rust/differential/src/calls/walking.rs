@@ -55,10 +55,9 @@ pub struct StepLeft {
 impl WalkStep {
     /// The walk as the wrapper saves it: reader, mark and place.
     fn walk(&self) -> [u8; delampuk::Walk::OCTETS] {
-        let mut octets = [0; delampuk::Walk::OCTETS];
-        octets[..12].copy_from_slice(&self.state);
-        octets[12] = self.lost;
-        octets[13..].copy_from_slice(&self.place.to_le_bytes());
+        let mut octets = [self.lost; delampuk::Walk::OCTETS];
+        octets[..delampuk::Reader::OCTETS].copy_from_slice(&self.state);
+        octets[delampuk::Reader::OCTETS + 1..].copy_from_slice(&self.place.to_le_bytes());
         octets
     }
 }
