@@ -40,7 +40,7 @@ mod sender;
 
 pub use preset::Preset;
 pub use reader::{Block, Reader, Standing, Verdict, Word};
-pub use recording::{search, Step, Steps, Streams, Walk};
+pub use recording::{list, search, Step, Steps, Streams, Walk};
 pub use refusal::Refusal;
 pub use sender::{Call, Sender, Sent};
 
@@ -55,3 +55,6 @@ pub const LSD: usize = 156;
 
 /// The most octets that a recording may have.
 pub const RECORDING_MAX: usize = 65_536;
+
+/// The most octets that a listing has.
+pub const TEXT_MAX: usize = 16_384;

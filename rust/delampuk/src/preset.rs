@@ -8,7 +8,7 @@ use crate::sender::Sender;
 /// and six zeros.
 #[derive(Clone, Debug, PartialEq, Eq)]
 pub struct Preset {
-    /// A sender with that audio chosen. It comes in force with the first block that is sent unmuted.
+    /// A sender with that audio chosen. Its command goes out with the first block that is sent unmuted.
     pub sender: Sender,
     /// The code of the data command, to be offered until it is sent.
     pub offer: u8,

@@ -19,6 +19,14 @@ pub fn search(recording: &[u8], start: usize) -> Result<usize, Refusal> {
     Ok(answer.place)
 }
 
+/// Writes the listing of a recording, lines of ASCII with a newline after each, to the front of `text`, and answers its
+/// length. [`TEXT_MAX`](crate::TEXT_MAX) octets are room enough; `None` where it does not fit, and then `text` holds
+/// what does. A recording that cannot be searched has a listing too: `none` and the refusal's number.
+pub fn list(recording: &[u8], text: &mut [u8]) -> Option<usize> {
+    let length = ffi::list(recording, text);
+    (length <= text.len()).then_some(length)
+}
+
 /// What a step of a walk came to.
 #[derive(Clone, Copy, Debug, PartialEq, Eq, Hash)]
 pub enum Step {

@@ -49,6 +49,7 @@ extern "C" {
         lsd: *mut u8,
         lsd_length: usize,
     ) -> StepOutcome;
+    fn delampuk_list(recording: *const u8, length: usize, text: *mut u8, text_length: usize) -> usize;
 }
 
 pub fn fresh_sender() -> Sender {
@@ -126,4 +127,11 @@ pub fn step(recording: &[u8], place: usize, lost: u8, state: Reader, voice: &mut
             lsd.len(),
         )
     }
+}
+
+pub fn list(recording: &[u8], text: &mut [u8]) -> usize {
+    // SAFETY: `text` is borrowed alone, so it does not overlap `recording`, and nobody else looks at it meanwhile.
+    // Each pointer goes with the length of its own slice and is not null, and the borrows outlive the call, which
+    // keeps no pointer.
+    unsafe { delampuk_list(recording.as_ptr(), recording.len(), text.as_mut_ptr(), text.len()) }
 }

@@ -2,7 +2,7 @@
 
 mod calls;
 
-pub use calls::{fresh_reader, fresh_sender, read, read_preset, search, send, step, write_preset};
+pub use calls::{fresh_reader, fresh_sender, list, read, read_preset, search, send, step, write_preset};
 
 /// `struct delampuk_mode`.
 #[derive(Clone, Copy, Debug, PartialEq, Eq)]

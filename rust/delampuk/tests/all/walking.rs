@@ -1,6 +1,6 @@
 //! Walks over recordings, with a loss on the way.
 
-use delampuk::{search, Refusal, Standing, Step, Streams, Walk, LINE, LSD, VOICE};
+use delampuk::{list, search, Refusal, Standing, Step, Streams, Walk, LINE, LSD, TEXT_MAX, VOICE};
 
 use crate::common::idle_blocks;
 
@@ -84,4 +84,19 @@ fn a_search_begins_where_it_is_told() {
     assert_eq!(search(&recording, NOISE + 1), Ok(NOISE + LINE));
     assert_eq!(search(&recording, recording.len()), Err(Refusal::Recording));
     assert_eq!(Walk::new(&[0xFF; 200]), Err(Refusal::NoPlace));
+}
+
+/// The listing tells the same story, and a text that is too short holds its beginning.
+#[test]
+fn a_listing_of_the_walk() {
+    let recording = slipped();
+    let mut text = [0; TEXT_MAX];
+    let length = list(&recording, &mut text).expect("there is room for every listing");
+    let lines: Vec<&str> = std::str::from_utf8(&text[..length]).expect("a listing is ASCII").lines().collect();
+    assert_eq!(lines[..2], ["found 11", "0 waiting none --"]);
+    assert_eq!(lines[12..14], ["11 lost none --", "found 1938"]);
+    assert_eq!(lines.last(), Some(&"left 155"));
+    let mut short = [0; 7];
+    assert_eq!(list(&recording, &mut short), None);
+    assert_eq!(&short, b"found 1");
 }

@@ -4,6 +4,7 @@
 //! `kept` says that no const buffer and nothing around the buffers changed. A refusal of the wrapper is a number
 //! alone: what C finds beside it is asked of the server.
 
+mod listing;
 mod presets;
 mod reading;
 mod searching;
@@ -19,6 +20,7 @@ use model::slots::Reading;
 use crate::server::{Answer, Request};
 use crate::states::{self, Reader};
 
+pub use listing::{List, ListLeft};
 pub use presets::{ReadPreset, WritePreset};
 pub use reading::{Read, ReadLeft};
 pub use searching::{Search, SearchLeft};

@@ -1,6 +1,7 @@
 //! The comparisons, over whichever way to the library the test program names.
 
 mod corners;
+mod listing;
 mod presets;
 mod reading;
 mod searching;
