@@ -3,8 +3,8 @@
 //!
 //! - [`server`]: the archive for x86-64, called in C by a process, `c/serve.c`, which `tools/serve` starts, in an
 //!   emulator where one is needed. Each number that crosses to C is compared as it is.
-//! - [`linked`]: the archive for this machine's processor, called through the wrapper `delampuk`, so quickly that most
-//!   of the time goes to the model and many more cases can be tried.
+//! - [`linked`]: the archive for this machine's processor, called through the wrapper `delampuk`. Most of the time
+//!   goes to the model then, and more cases can be tried.
 //!
 //! Cases are drawn from a seed. `SEED` chooses another one, `CASES` how many cases are tried, and `CASE` a single
 //! one of them, as a difference prints it.
