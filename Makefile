@@ -1,6 +1,7 @@
 # `make demo` shows what the library does, `make test` runs every check, and `make soak` compares the library with the model in Rust for
-# longer: CASES (linked into one process), SERVED (called in C, through a server) and SEED can be given.
-.PHONY: demo test soak
+# longer: CASES (linked into one process), SERVED (called in C, through a server) and SEED can be given. `make bench` prints the library's
+# speed beside that of other implementations.
+.PHONY: demo test soak bench
 
 demo:
 	@mkdir -p target
@@ -20,3 +21,7 @@ soak:
 	@sh tools/serve build
 	@CASES=$(CASES) $(compare) --test linked -- --nocapture
 	@CASES=$(SERVED) $(compare) --test server -- --nocapture
+
+bench:
+	@sh tools/native
+	@cargo run --quiet --release --offline --manifest-path rust/Cargo.toml -p bench

@@ -1,0 +1,48 @@
+//! Times of calls: medians over rounds in which the contestants take turns, so that a busy machine hurts all alike.
+
+/// Rounds, odd for the median.
+pub const ROUNDS: usize = 15;
+
+/// For how many nanoseconds one contestant is timed in one round, at least.
+const SAMPLE: u64 = 500_000;
+
+extern "C" {
+    fn thread_nanoseconds() -> u64;
+}
+
+/// The processor's time, in nanoseconds, that something takes.
+pub fn time_of(work: impl FnOnce()) -> u64 {
+    let now = || unsafe { thread_nanoseconds() };
+    let begin = now();
+    work();
+    now() - begin
+}
+
+/// Makes so many calls and answers how many nanoseconds they took.
+pub type Run<'a> = Box<dyn Fn(usize) -> u64 + 'a>;
+
+/// How many calls take a sample's time.
+fn calls_of_sample(run: &Run) -> usize {
+    let mut calls = 1;
+    while run(calls) < SAMPLE {
+        calls *= 2;
+    }
+    calls
+}
+
+fn median(mut times: Vec<f64>) -> f64 {
+    times.sort_by(f64::total_cmp);
+    times[times.len() / 2]
+}
+
+/// Nanoseconds of one call of each contestant.
+pub fn medians(runs: &[Run]) -> Vec<f64> {
+    let calls: Vec<usize> = runs.iter().map(calls_of_sample).collect();
+    let mut times = vec![Vec::new(); runs.len()];
+    for _ in 0..ROUNDS {
+        for ((run, &calls), times) in runs.iter().zip(&calls).zip(&mut times) {
+            times.push(run(calls) as f64 / calls as f64);
+        }
+    }
+    times.into_iter().map(median).collect()
+}
