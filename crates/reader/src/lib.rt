@@ -388,12 +388,13 @@ fn next_of(s: Reader, g: Signs, run: u8) -> Reader
     }
 }
 
-// The step from what a block shows: the third wrong alignment word in a row is a loss, and all else is skipped.
-fn step(s: Reader, g: Signs) -> Stepped
+// The step over a block: the third wrong alignment word in a row is a loss, and nothing else of the block is looked at.
+fn step(s: Reader, line: &[u8]) -> Stepped
     requires { ⌜ (s .wrong ≤ 2) × (s .misses ≤ 2) ⌝ }
-    ensures { λ r. ⌜ r ≡ stepOf s g ⌝ }
+    ensures { λ r. ⌜ r ≡ stepOf s (signsOf (now (line .entry))) ⌝ }
 {
-    let run = count(s.wrong, g.wrong == 0);
+    let wrong = frame::wrong_bits(line);
+    let run = count(s.wrong, wrong == 0);
     if run == 3 {
         let gone = fresh_in(mode_before(s));
         let lost = Report {
@@ -406,6 +407,7 @@ fn step(s: Reader, g: Signs) -> Stepped
             report: lost,
         };
     }
+    let g = signs_of(line);
     let report = report_of(s, g);
     let state = next_of(s, g, run);
     Stepped {
@@ -476,7 +478,7 @@ pub fn read(state: Reader, line: &[u8], voice: &mut [u8], lsd: &mut [u8]) -> Out
             answer: Answer::Refused(why),
         },
         Ruling::Take => {
-            let stepped = step(state, signs_of(line));
+            let stepped = step(state, line);
             let next = stepped.state;
             let report = stepped.report;
             let standing = report.standing;

@@ -1,7 +1,6 @@
 -- `reader::read` meets its contract: by its ruling.
-use mathlib.Core.Path.{sym, ap, _∙_}
+use mathlib.Core.Path.{sym, _∙_}
 use denote.Ref.{now}
-use Rattle.reader.specs.Step.{stepOf}
 use Rattle.reader.proofs.OutcomeLaws.{taken, taken-fitting, refused-is, taken-is}
 use Rattle.reader.proofs.RangeLaws.{kept}
 use borrow.Author.Needs.{needs}
@@ -17,17 +16,14 @@ enum-known-ruling c = search needs
 enum-told : tie.Need-enum-told
 enum-told c = search needs
 
-signs-of-requires : tie.Need-signs-of-requires
-signs-of-requires c κs = search needs
-
 step-requires : tie.Need-step-requires
 step-requires c κs =
-    let t = taken _ _ _ _ (sym (c .before .before .before .ruling-of .ensures) ∙ c .before .enum-told .given .1) in
+    let t = taken _ _ _ _ (sym (c .before .before .ruling-of .ensures) ∙ c .enum-told .given .1) in
     let k = kept _ (t .range) in
     (k .wrong-low, k .misses-low)
 
 hand-requires : tie.Need-hand-requires
-hand-requires c κs = taken-fitting _ _ _ _ (sym (c .before .before .before .before .before .before .before .before .ruling-of .ensures) ∙ c .before .before .before .before .before .before .enum-told .given .1)
+hand-requires c κs = taken-fitting _ _ _ _ (sym (c .before .before .before .before .before .before .before .ruling-of .ensures) ∙ c .before .before .before .before .before .enum-told .given .1)
 
 returns : tie.Need-returns
 returns c = refused-is _ _ _ _ _ (sym (c .before .before .before .ruling-of .ensures) ∙ c .before .ruling .given .1)
@@ -40,10 +36,10 @@ same-length-2 c = search needs
 
 returns-2 : tie.Need-returns-2
 returns-2 c =
-    let a = c .before .before .before .before .before .before .before .before .before .before .before .before .before .before .before .before .before .before .args in
+    let a = c .before .before .before .before .before .before .before .before .before .before .before .before .before .before .before .before .before .args in
     taken-is (a .state) (now (a .line)) (now (a .voice)) (now (a .lsd)) _ _ _
-    (sym (c .before .before .before .before .before .before .before .before .before .before .before .before .before .ruling-of .ensures) ∙ c .before .before .before .before .before .before .before .before .before .before .before .enum-told .given .1)
-    (c .before .before .before .before .before .before .before .before .before .step .ensures ∙ ap (stepOf (a .state)) (c .before .before .before .before .before .before .before .before .before .before .signs-of .ensures))
+    (sym (c .before .before .before .before .before .before .before .before .before .before .before .before .ruling-of .ensures) ∙ c .before .before .before .before .before .before .before .before .before .before .enum-told .given .1)
+    (c .before .before .before .before .before .before .before .before .before .step .ensures)
     (c .before .before .before .before .hand .ensures .0)
     (c .before .before .before .before .hand .ensures .1)
 
@@ -54,7 +50,6 @@ read-spec =
     ruling-of-requires
     enum-known-ruling
     enum-told
-    signs-of-requires
     step-requires
     hand-requires
     returns
