@@ -1,8 +1,8 @@
 -- Laws of bits: of the sum without carry, and of the passage between numbers and bits, once for every width.
 use mathlib.Core.Path.{_≡_, refl, sym, ap, ap₂, _∙_}
-use mathlib.Core.Bool.{Bool, true, false, xor}
+use mathlib.Core.Bool.{Bool, true, false, xor, _&&_, _||_}
 use mathlib.Core.List.{List, [], _∷_, _++_, append-assoc, append-nil}
-use Prim.Native.Nat.{ℕ, zero, suc, _+_, _-_, _*_, _/_, _%_, _^_, _<_}
+use Prim.Native.Nat.{ℕ, zero, suc, _+_, _-_, _*_, _/_, _%_, _^_, _<_, min, max}
 use native.Mathlib.Nat.{suc-inj, suc-ne-zero, pow-suc, mul-assoc, add-assoc, mod-one, mod-eq-of-lt, mul-add-mod-self-right, mul-add-div-right, pow-succ', zero-div, zero-mul, add-mul, zero-add, suc-add, add-comm, add-zero, le-of-suc-le-suc}
 use native.Mathlib.Omega.{arith}
 use native.Mathlib.Numerals.{one-add}
@@ -10,7 +10,7 @@ use lib.Dec.{eqb}
 use lib.ListN.{length, getD, take, drop, length-append}
 use lib.Seq.{take-at, drop-at}
 use lib.Pow.{pow-pos, pow-add, mod-pow-add, high, split, shr-shr, shl-shr}
-use lib.Bits.{bitXor, xor-step, xor-shr, differ}
+use lib.Bits.{bitXor, bitOr, bitAnd, xor-step, or-step, and-step, xor-shr, differ}
 use Rattle.bits.specs.Bits.{odd, lowBits, octetBits, bitsOf, digit, number, zeros, xors}
 
 -- ---- the sum of two bits
@@ -204,21 +204,46 @@ lowBits-number (b ∷ bs) =
 pub number-inj : (xs ys : List Bool) → length xs ≡ length ys → number xs ≡ number ys → xs ≡ ys
 number-inj xs ys h e = sym (lowBits-number xs) ∙ ap₂ lowBits h e ∙ lowBits-number ys
 
--- ---- the machine's exclusive or is the sum without carry
-differ-odd : (x y : ℕ) → x < 2 → y < 2 → odd (differ x y) ≡ xor (eqb x 1) (eqb y 1)
+-- ---- the machine's operations on numbers, in their bits; exclusive or is the sum without carry
+-- an operation that goes digit by digit has the lowest bit that it gives of the two lowest digits
+odd-of : (op on-digits : ℕ → ℕ → ℕ) (on-bits : Bool → Bool → Bool)
+    → ((a b : ℕ) → op a b ≡ op (a / 2) (b / 2) * 2 + on-digits (a % 2) (b % 2))
+    → ((p q : Bool) → odd (on-digits (digit p) (digit q)) ≡ on-bits p q)
+    → (a b : ℕ) → odd (op a b) ≡ on-bits (odd a) (odd b)
+odd-of op on-digits on-bits step lowest a b =
+    ap odd (step a b) ∙ odd-above (op (a / 2) (b / 2)) (on-digits (a % 2) (b % 2))
+    ∙ ap₂ (λ (x y : ℕ). odd (on-digits x y)) (sym (digit-odd a)) (sym (digit-odd b))
+    ∙ lowest (odd a) (odd b)
+
+differ-odd : (p q : Bool) → odd (differ (digit p) (digit q)) ≡ xor p q
 unfolding odd xor
-differ-odd zero zero h k = refl
-differ-odd zero (suc zero) h k = refl
-differ-odd zero (suc (suc y)) h k = absurd (omega arith)
-differ-odd (suc zero) zero h k = refl
-differ-odd (suc zero) (suc zero) h k = refl
-differ-odd (suc zero) (suc (suc y)) h k = absurd (omega arith)
-differ-odd (suc (suc x)) y h k = absurd (omega arith)
+differ-odd true true = refl
+differ-odd true false = refl
+differ-odd false true = refl
+differ-odd false false = refl
+
+max-odd : (p q : Bool) → odd (max (digit p) (digit q)) ≡ (p || q)
+unfolding odd
+max-odd true true = refl
+max-odd true false = refl
+max-odd false true = refl
+max-odd false false = refl
+
+min-odd : (p q : Bool) → odd (min (digit p) (digit q)) ≡ (p && q)
+unfolding odd
+min-odd true true = refl
+min-odd true false = refl
+min-odd false true = refl
+min-odd false false = refl
 
 pub odd-xor : (a b : ℕ) → odd (bitXor a b) ≡ xor (odd a) (odd b)
-odd-xor a b =
-    ap odd (xor-step a b) ∙ odd-above (bitXor (a / 2) (b / 2)) (differ (a % 2) (b % 2))
-    ∙ unfold odd in differ-odd (a % 2) (b % 2) (omega arith) (omega arith)
+odd-xor = odd-of bitXor differ xor xor-step differ-odd
+
+pub odd-or : (a b : ℕ) → odd (bitOr a b) ≡ (odd a || odd b)
+odd-or = odd-of bitOr max _||_ or-step max-odd
+
+pub odd-and : (a b : ℕ) → odd (bitAnd a b) ≡ (odd a && odd b)
+odd-and = odd-of bitAnd min _&&_ and-step min-odd
 
 pub lowBits-xor : (k a b : ℕ) → lowBits k (bitXor a b) ≡ xors (lowBits k a) (lowBits k b)
 unfolding lowBits xors
