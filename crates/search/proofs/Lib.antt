@@ -1,1 +1,3 @@
 pub mod PlaceLaws
+pub mod WrongLaws
+pub mod GroupLaws

@@ -16,6 +16,7 @@ use Rattle.frame.specs.Service.{evenAlignment}
 use Rattle.frame.specs.Channel.{channelBits}
 use Rattle.frame.proofs.ChannelLaws.{length-channel}
 use Rattle.search.specs.Finding.{spells, aligned, firstOf, badLength, searchOf}
+use Rattle.search.specs.Groups.{firstFrom}
 use Rattle.search.specs.declared.Refusal.the-variants.{RecordingLength, NoPlace}
 use Rattle.search.specs.declared.Found.{Found}
 use Rattle.search.specs.declared.Found.the-variants.{Place, Refused}
@@ -35,15 +36,14 @@ unfolding aligned
 too-short part h = rw (lt-leb 168 (length part) h, and-false)
 
 -- ---- one place further on
-pub first-none : (at : ℕ) (recording : List ℕ) → length recording ≤ at → firstOf (length recording - at) at recording ≡ Refused NoPlace
+pub first-none : (at : ℕ) (recording : List ℕ) → length recording ≤ at → firstFrom at recording ≡ Refused NoPlace
 unfolding firstOf
 first-none at recording h =
     let e : length recording - at ≡ 0 = omega arith in
     ap (λ (n : ℕ). firstOf n at recording) e
 
 pub first-step : (at : ℕ) (recording : List ℕ) → at < length recording
-    → firstOf (length recording - at) at recording
-    ≡ cond (aligned (drop at recording)) (Place at) (firstOf (length recording - (at + 1)) (at + 1) recording)
+    → firstFrom at recording ≡ cond (aligned (drop at recording)) (Place at) (firstFrom (at + 1) recording)
 unfolding firstOf
 first-step at recording h =
     let e : length recording - at ≡ suc (length recording - (at + 1)) = omega arith in

@@ -1,88 +1,31 @@
--- `search::search` meets its contract. The loop's invariant: the places passed do not fit, so that the answer is the first of those left.
-use mathlib.Core.Path.{_≡_, sym, _∙_}
-use mathlib.Core.Bool.{cond}
-use Prim.Native.Nat.{_+_, _-_}
-use native.Mathlib.Omega.{arith}
-use lib.ListN.{length}
+-- `search::search` meets its contract: the test of the lengths, and then the first place of those that are left.
+use mathlib.Core.Path.{_∙_}
+use Rattle.search.specs.Finding.{badLength, searchOf}
 use borrow.Author.Needs.{needs}
-use Rattle.search.specs.Finding.{firstOf, badLength, searchOf}
-use Rattle.search.specs.declared.Found.the-variants.{Place}
-use Rattle.search.proofs.PlaceLaws.{lent-part, first-none, first-step}
 use Rattle.search.proofs.search.Statement.{statement}
 use Rattle.search.proofs.search.Tie as tie
 
-abbrev Inv-loop : tie.InvT-loop
-Inv-loop recording start all at₀ at = searchOf recording start ≡ firstOf (all - at) at recording
-
-abbrev μ-loop : tie.MeasureT-loop
-μ-loop recording start all at₀ at = all - at
-
-octets-from-requires : tie.Need-octets-from-requires Inv-loop μ-loop
+octets-from-requires : tie.Need-octets-from-requires
 octets-from-requires c κs = search needs
 
-returns : tie.Need-returns Inv-loop μ-loop
+returns : tie.Need-returns
 unfolding searchOf badLength
 returns c = rw (← c .before .octets-from .ensures, c .if1 .taken)
 
-loop-holds : tie.Need-loop-holds Inv-loop μ-loop
+after-groups-requires : tie.Need-after-groups-requires
+after-groups-requires c κs = search needs
+
+first-from-requires : tie.Need-first-from-requires
+first-from-requires c κs = search needs
+
+returns-2 : tie.Need-returns-2
 unfolding searchOf badLength
-loop-holds c = rw (← c .before .octets-from .ensures, c .if1 .left)
-
-sub-is-aligned : tie.Need-sub-is-aligned Inv-loop μ-loop
-sub-is-aligned c = search needs
-
-part-is-aligned-start : tie.Need-part-is-aligned-start Inv-loop μ-loop
-part-is-aligned-start c = search needs
-
-part-is-aligned-end : tie.Need-part-is-aligned-end Inv-loop μ-loop
-part-is-aligned-end c = search needs
-
-is-aligned-requires : tie.Need-is-aligned-requires Inv-loop μ-loop
-is-aligned-requires c κs = search needs
-
--- the answer, by the test of the place reached
-by-test : (c : tie.After-is-aligned Inv-loop μ-loop)
-    → (let s = c .before .before .before in
-    let a = s .before .before .before .before .args in
-    searchOf (a .recording .now) (a .start)
-    ≡ cond (c .is-aligned .result) (Place (s .loop .at)) (firstOf (length (a .recording .now) - (s .loop .at + 1)) (s .loop .at + 1) (a .recording .now)))
-by-test c =
-    let s = c .before .before .before in
-    let recording = s .before .before .before .before .args .recording .now in
-    rw (c .is-aligned .ensures, lent-part (s .loop .at) recording) (s .loop .inv ∙ first-step (s .loop .at) recording (c .before .before .loop-test .taken))
-
-returns-2 : tie.Need-returns-2 Inv-loop μ-loop
-returns-2 c = sym (rw (c .if2 .taken) at (by-test (c .before)))
-
-add-at : tie.Need-add-at Inv-loop μ-loop
-add-at c = search needs
-
-loop-less : tie.Need-loop-less Inv-loop μ-loop
-loop-less c = omega arith
-
-loop-again : tie.Need-loop-again Inv-loop μ-loop
-loop-again c = rw (c .if2 .left) at (by-test (c .before))
-
-returns-3 : tie.Need-returns-3 Inv-loop μ-loop
-returns-3 c =
-    let l = c .before .loop in
-    sym (l .inv ∙ first-none (l .at) (c .before .before .before .before .before .args .recording .now) (c .loop-test .left))
+returns-2 c =
+    let s = c .before .before in
+    let n = s .before .octets-from .ensures in
+    rw (← n, s .if1 .left, n) (c .first-from .ensures ∙ c .before .after-groups .ensures)
 
 pub search-spec : {M : Type 1} → statement M
 search-spec =
     tie.close
-    (tie.spec
-    Inv-loop
-    μ-loop
-    octets-from-requires
-    returns
-    loop-holds
-    sub-is-aligned
-    part-is-aligned-start
-    part-is-aligned-end
-    is-aligned-requires
-    returns-2
-    add-at
-    loop-less
-    loop-again
-    returns-3)
+    (tie.spec octets-from-requires returns after-groups-requires first-from-requires returns-2)
