@@ -3,7 +3,7 @@ use mathlib.Core.Path.{_≡_, refl, sym, ap, _∙_, subst}
 use mathlib.Core.Bool.{Bool, true}
 use mathlib.Core.List.{List, [], _∷_, _++_}
 use Prim.Native.Nat.{ℕ, zero, suc, _+_, _%_, _^_, _<_}
-use native.Mathlib.Nat.{add-zero, le-of-suc-le-suc}
+use native.Mathlib.Nat.{zero-add, add-zero, le-of-suc-le-suc}
 use native.Mathlib.Numerals.{add-one}
 use native.Mathlib.Omega.{arith}
 use lib.Dec.{leb, lit<}
@@ -80,9 +80,12 @@ unfolding summedFrom
 length-summedFrom at [] = refl
 length-summedFrom at (x ∷ xs) = ap suc (length-summedFrom (at + 1) xs)
 
-pub getD-summedFrom : (at : ℕ) (s : List ℕ) (i : ℕ) → i < length s → getD (summedFrom at s) i 0 ≡ summed (at + i) (getD s i 0)
+getD-summedFrom : (at : ℕ) (s : List ℕ) (i : ℕ) → i < length s → getD (summedFrom at s) i 0 ≡ summed (at + i) (getD s i 0)
 unfolding summedFrom
 getD-summedFrom at [] i h = absurd (omega arith)
 getD-summedFrom at (x ∷ xs) zero h = ap (λ (n : ℕ). summed n x) (sym (add-zero at))
 getD-summedFrom at (x ∷ xs) (suc i) h =
     getD-summedFrom (at + 1) xs i (le-of-suc-le-suc h) ∙ ap (λ (n : ℕ). summed n (getD xs i 0)) (omega arith)
+
+pub summed-at : (s : List ℕ) (i : ℕ) → i < length s → summed i (getD s i 0) ≡ getD (summedFrom 0 s) i 0
+summed-at s i h = ap (λ (n : ℕ). summed n (getD s i 0)) (sym (zero-add i)) ∙ sym (getD-summedFrom 0 s i h)

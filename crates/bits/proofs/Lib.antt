@@ -6,4 +6,5 @@ pub mod RemainderLaws
 pub mod RunLaws
 pub mod Settled
 pub mod ShiftLaws
+pub mod SumLaws
 pub mod Table

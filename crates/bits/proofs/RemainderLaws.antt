@@ -2,8 +2,8 @@
 use mathlib.Core.Path.{_≡_, refl, sym, ap, ap₂, _∙_}
 use mathlib.Core.Bool.{Bool, true, false, xor}
 use mathlib.Core.List.{List, [], _∷_, _++_, append-assoc, append-nil, head-eq-of-cons-eq, tail-eq-of-cons-eq}
-use Prim.Native.Nat.{ℕ, zero, suc, _+_, _<_}
-use native.Mathlib.Nat.{suc-inj, suc-ne-zero, add-comm, zero-add, suc-add}
+use Prim.Native.Nat.{ℕ, zero, suc, _+_, _*_, _<_}
+use native.Mathlib.Nat.{suc-inj, suc-ne-zero, add-comm, zero-add, suc-add, mul-zero, mul-suc}
 use native.Mathlib.Numerals.{add-one}
 use native.Mathlib.Omega.{arith}
 use lib.ListN.{length, length-append, length-replicate, replicate-append-replicate}
@@ -103,6 +103,10 @@ pub remainder-zeros : (g : List Bool) (n : ℕ) → remainder g (zeros n) ≡ ze
 unfolding remainder continued
 remainder-zeros g zero = refl
 remainder-zeros g (suc n) = ap (λ (r : List Bool). continued g r (zeros n)) (fed-zeros g) ∙ remainder-zeros g n
+
+pub remainder-after-zeros : (g m : List Bool) (n : ℕ) → remainder g (zeros n ++ m) ≡ remainder g m
+unfolding remainder
+remainder-after-zeros g m n = remainder-append g (zeros n) m ∙ ap (λ (l : List Bool). continued g l m) (remainder-zeros g n)
 
 -- ---- it is the remainder: message · X^k = quotient · (X^k + g) + remainder, and no other list of k bits is
 -- the quotient's bits are what the register and the message add up to at the top
@@ -254,3 +258,28 @@ continued-is g r m n k hr hm =
       length-quotient g r m ∙ sym hx,
       joined ∙ division g r m hr k ∙ ap (λ (n : ℕ). xors (product g (quotient g r m)) (zeros n ++ continued g r m)) (sym hx),
     )
+
+-- ---- a period: so many zeros over which every remainder comes back to itself
+abbrev pub Period : List Bool → ℕ → Type 0
+Period g n = (r : List Bool) → length r ≡ length g → continued g r (zeros n) ≡ r
+
+pub period-times : (g : List Bool) (n k : ℕ) → Period g n → Period g (n * k)
+unfolding continued
+period-times g n zero p r h = rw (mul-zero n)
+period-times g n (suc k) p r h =
+    ap (continued g r) (ap zeros (mul-suc n k) ∙ sym (replicate-append-replicate (n * k) n false))
+    ∙ continued-append g r (zeros (n * k)) (zeros n)
+    ∙ ap (λ (l : List Bool). continued g l (zeros n)) (period-times g n k p r h)
+    ∙ p r h
+
+-- bits may be added to those that come a period after them
+pub remainder-moved : (g b c : List Bool) → length b ≡ length c → Period g (length c) → remainder g (b ++ c) ≡ remainder g (xors b c)
+unfolding remainder
+remainder-moved g b c h p =
+    let r = remainder g b in
+    let hr : length r ≡ length g = length-remainder g b in
+    remainder-append g b c
+    ∙ ap₂ (continued g) (sym (xors-zeros r (length g) hr)) (sym (zeros-left (length c) c refl))
+    ∙ continued-xor g r (zeros (length g)) (zeros (length c)) c hr (length-zeros (length g)) (length-zeros (length c))
+    ∙ ap (λ (l : List Bool). xors l (remainder g c)) (p r hr)
+    ∙ sym (remainder-xor g b c h)

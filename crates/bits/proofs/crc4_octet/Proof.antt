@@ -1,51 +1,46 @@
--- `bits::crc4_octet` meets its contract: the table has the remainder of each octet, and the register goes into the octet's first four bits.
+-- `bits::crc4_octet` meets its contract: the register goes into the octet's first four bits, and what they leave into the other four.
 use mathlib.Core.Path.{_≡_, sym, ap, _∙_}
-use mathlib.Core.Bool.{Bool, xor}
-use mathlib.Core.List.{List, _++_}
-use Prim.Native.Nat.{ℕ, _*_, _%_, _<_}
-use native.Mathlib.Omega.{arith}
+use mathlib.Core.Bool.{Bool}
+use mathlib.Core.List.{List, append-nil}
+use Prim.Native.Nat.{ℕ, _/_}
 use borrow.Author.Needs.{needs}
-use lib.Bits.{bitXor, xor-lt}
+use lib.Bits.{bitXor}
 use lib.Dec.{lit<}
-use Rattle.bits.specs.Bits.{odd, lowBits, octetBits, number, zeros, xors}
-use Rattle.bits.specs.Remainder.{scaled, fed, continued, remainder}
+use Rattle.bits.specs.Bits.{lowBits, number, xors}
+use Rattle.bits.specs.Remainder.{continued, remainder}
 use Rattle.bits.specs.Crc.{crc4Generator, crc4From}
-use Rattle.bits.proofs.BitLaws.{lowBits-xor, lowBits-shifted, lowBits-mod, length-lowBits, bitsOf-one}
-use Rattle.bits.proofs.RemainderLaws.{continued-is}
-use Rattle.bits.proofs.Table.{entry}
+use Rattle.bits.proofs.BitLaws.{lowBits-xor, lowBits-append, lowBits-back, length-lowBits, bitsOf-one}
+use Rattle.bits.proofs.RemainderLaws.{length-remainder, continued-append, continued-is}
 use Rattle.bits.proofs.crc4_octet.Statement.{statement}
 use Rattle.bits.proofs.crc4_octet.Tie as tie
 
--- the remainder of one octet
-rule : ℕ → ℕ
-rule x = number (remainder crc4Generator (octetBits x))
+-- four bits more
+more : (s h : ℕ) → remainder crc4Generator (lowBits 4 (bitXor s h)) ≡ continued crc4Generator (lowBits 4 s) (lowBits 4 h)
+more s h =
+    ap (remainder crc4Generator) (lowBits-xor 4 s h ∙ ap (λ (l : List Bool). xors l (lowBits 4 h)) (sym (append-nil (lowBits 4 s))))
+    ∙ sym (continued-is crc4Generator (lowBits 4 s) (lowBits 4 h) 0 (lit< tt) (length-lowBits 4 s) (length-lowBits 4 h))
 
-folded : (s x : ℕ) → remainder crc4Generator (octetBits (bitXor (s % 16 * 16) x)) ≡ continued crc4Generator (lowBits 4 s) (octetBits x)
-folded s x =
-    ap (remainder crc4Generator)
-    (lowBits-xor 8 (s % 16 * 16) x
-    ∙ ap (λ (l : List Bool). xors l (octetBits x)) (lowBits-shifted 4 4 (s % 16) ∙ ap (λ (l : List Bool). l ++ zeros 4) (lowBits-mod 4 s)))
-    ∙ sym (continued-is crc4Generator (lowBits 4 s) (octetBits x) 4 (lit< tt) (length-lowBits 4 s) (length-lowBits 8 x))
+crc4-half-requires : tie.Need-crc4-half-requires
+crc4-half-requires c κs = search needs
 
-below : (s x : ℕ) → x < 256 → bitXor (s % 16 * 16) x < 256
-below s x h = xor-lt 8 (s % 16 * 16) x (omega arith) h
-
-mul-at : tie.Need-mul-at
-mul-at c = search needs
-
-cast-result : tie.Need-cast-result
-cast-result c = omega (arith, below (c .args .before) (c .args .octet) (search needs))
-
-array-read-result : tie.Need-array-read-result
-array-read-result c = below (c .args .before) (c .args .octet) (search needs)
+crc4-half-requires-2 : tie.Need-crc4-half-requires-2
+crc4-half-requires-2 c κs = search needs
 
 returns : tie.Need-returns
-unfolding crc4From rule number remainder continued lowBits fed xors scaled xor odd
+unfolding crc4From
 returns c =
-    let h : c .args .octet < 256 = search needs in
-    entry 256 rule 0 (bitXor (c .args .before % 16 * 16) (c .args .octet)) (below (c .args .before) (c .args .octet) h)
-    ∙ ap number (folded (c .args .before) (c .args .octet))
-    ∙ ap (λ (l : List Bool). number (continued crc4Generator (lowBits 4 (c .args .before)) l)) (sym (bitsOf-one (c .args .octet)))
+    let s = c .before .before .args .before in
+    let x = c .before .before .args .octet in
+    let g = crc4Generator in
+    let high = lowBits 4 (bitXor s (x / 16)) in
+    let between : lowBits 4 (c .before .crc4-half .result) ≡ continued g (lowBits 4 s) (lowBits 4 (x / 16)) =
+    ap (lowBits 4) (c .before .crc4-half .ensures) ∙ lowBits-back 4 (remainder g high) (length-remainder g high) ∙ more s (x / 16) in
+    c .crc4-half2 .ensures
+    ∙ ap number
+    (more (c .before .crc4-half .result) x
+    ∙ ap (λ (r : List Bool). continued g r (lowBits 4 x)) between
+    ∙ sym (continued-append g (lowBits 4 s) (lowBits 4 (x / 16)) (lowBits 4 x))
+    ∙ ap (continued g (lowBits 4 s)) (sym (lowBits-append 4 4 x) ∙ sym (bitsOf-one x)))
 
 pub crc4-octet-spec : {M : Type 1} → statement M
-crc4-octet-spec = tie.close (tie.spec mul-at cast-result array-read-result returns)
+crc4-octet-spec = tie.close (tie.spec crc4-half-requires crc4-half-requires-2 returns)

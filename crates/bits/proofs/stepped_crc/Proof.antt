@@ -1,15 +1,14 @@
--- `bits::block_crc` meets its contract. The loop's invariant: the sum is that of the octets passed, as they are summed. The measure is what is left.
+-- `bits::stepped_crc` meets its contract. The loop's invariant: the sum is that of the octets passed, as they are summed. The measure is what is left.
 use mathlib.Core.Path.{_≡_, refl, sym, ap, ap₂, _∙_}
 use mathlib.Core.List.{[], _∷_}
 use Prim.Native.Nat.{ℕ, _-_, _≤_, _<_}
-use native.Mathlib.Nat.{zero-add}
 use native.Mathlib.Omega.{arith}
 use lib.ListN.{length, take, getD}
 use lib.Seq.{take-all}
-use Rattle.bits.specs.Crc.{crc4From, summed, summedFrom, blockCrcOf}
-use Rattle.bits.proofs.CrcLaws.{crc4From-nil, crc4From-zero, crc4From-turn, length-summedFrom, getD-summedFrom}
-use Rattle.bits.proofs.block_crc.Statement.{statement}
-use Rattle.bits.proofs.block_crc.Tie as tie
+use Rattle.bits.specs.Crc.{crc4From, summedFrom, blockCrcOf}
+use Rattle.bits.proofs.CrcLaws.{crc4From-nil, crc4From-zero, crc4From-turn, length-summedFrom, summed-at}
+use Rattle.bits.proofs.stepped_crc.Statement.{statement}
+use Rattle.bits.proofs.stepped_crc.Tie as tie
 
 abbrev Inv-loop : tie.InvT-loop
 Inv-loop block sum₀ i₀ i-end sum i = (i ≤ length block) × (i-end ≡ length block) × (sum ≡ crc4From 0 (take i (summedFrom 0 block)))
@@ -41,7 +40,7 @@ loop-again c =
     let i = c .before .before .before .before .loop .i in
     let inside : i < length block = omega arith in
     let summed-is : c .before .summed-octet .result ≡ getD (summedFrom 0 block) i 0 =
-    c .before .summed-octet .ensures ∙ ap (λ (n : ℕ). summed n (getD block i 0)) (sym (zero-add i)) ∙ sym (getD-summedFrom 0 block i inside) in (
+    c .before .summed-octet .ensures ∙ summed-at block i inside in (
       omega arith,
       refl,
       c .crc4-octet .ensures
@@ -59,8 +58,8 @@ returns c =
     ∙ ap (crc4From 0) (take-all i (summedFrom 0 block) (rw (length-summedFrom 0 block) past))
     ∙ crc4From-zero (summedFrom 0 block)
 
-pub block-crc-spec : {M : Type 1} → statement M
-block-crc-spec =
+pub stepped-crc-spec : {M : Type 1} → statement M
+stepped-crc-spec =
     tie.close
     (tie.spec
     Inv-loop
