@@ -1,6 +1,6 @@
 -- The four numbers of a layout give the rule of owners; how many places of a frame's first n octets each owner has.
 use mathlib.Core.Path.{_≡_, refl, ap, ap₂, sym, _∙_}
-use mathlib.Core.Bool.{Bool, true, false, false≢true, cond, _&&_}
+use mathlib.Core.Bool.{Bool, true, false, false≢true, cond, not, _&&_}
 use mathlib.Core.List.{List, [], _∷_, _++_}
 use Prim.Native.Nat.{ℕ, zero, suc, _+_, _-_, _*_, _≤_, _<_, min}
 use native.Mathlib.Nat.{zero-mul, suc-mul}
@@ -17,7 +17,7 @@ use Rattle.modes.specs.declared.Owner.the-variants.{Service, Voice, Lsd, Nobody
 use Rattle.modes.proofs.TableLaws.{audio-fit, lsd-fit, audio-shape, lsd-shape}
 use Rattle.frame.specs.Streams.{rank, same, count}
 use Rattle.frame.specs.Block.{row, rows}
-use Rattle.frame.specs.Layout.{layoutOf, columnsBy, channelBy, rowBy, rowsBy, sc, Apart}
+use Rattle.frame.specs.Layout.{layoutOf, columnsBy, channelBy, rowBy, rowsBy, uncutAt, sc, Apart}
 use Rattle.frame.specs.declared.Layout.{Layout}
 use Rattle.frame.proofs.StreamLaws.{rank-inj, count-append, count-all, count-none}
 
@@ -199,3 +199,27 @@ pub length-rows : (p : Layout) (n : ℕ) → p .width + p .columns ≤ 7 → len
 unfolding rowsBy
 length-rows p zero h = refl
 length-rows p (suc n) h = simp (length-append, length-row p (suc n) h, length-rows p n h) (omega arith)
+
+-- ---- eight octets that data's SC octets do not cut
+not-both : (a b : Bool) → not (a && b) ≡ true → a ≡ true → b ≡ false
+not-both true true h e = absurd (false≢true h)
+not-both true false h e = refl
+not-both false b h e = absurd (false≢true e)
+
+-- data has the SC bit of the first of them, and so of each
+pub uncut-in : (p : Layout) (o k : ℕ) → uncutAt p o ≡ true → o + 1 ≤ p .last → k < 8 → o + k + 1 ≤ p .last
+unfolding uncutAt
+uncut-in p o k u l hk =
+    let begins = not (leb (o + 2) (p .first) && leb (p .first) (o + 8)) in
+    let ends : leb (p .last) (o + 7) ≡ false =
+    not-both (leb (o + 1) (p .last)) (leb (p .last) (o + 7)) (and-right begins _ u) (le-leb (o + 1) (p .last) l) in
+    omega (arith, leb-false (p .last) (o + 7) ends)
+
+-- it has not that of the first, which comes before its own
+pub uncut-before : (p : Layout) (o k : ℕ) → uncutAt p o ≡ true → o + 1 < p .first → k < 8 → o + k + 1 < p .first
+unfolding uncutAt
+uncut-before p o k u f hk =
+    let ends = not (leb (o + 1) (p .last) && leb (p .last) (o + 7)) in
+    let begins : leb (p .first) (o + 8) ≡ false =
+    not-both (leb (o + 2) (p .first)) (leb (p .first) (o + 8)) (and-left _ ends u) (le-leb (o + 2) (p .first) (omega arith)) in
+    omega (arith, leb-false (p .first) (o + 8) begins)

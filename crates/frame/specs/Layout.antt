@@ -1,7 +1,7 @@
 -- How the code sees the places of a mode: by four numbers. Of the public contracts only that of `layout_of`, which the sorter shares, speaks of it;
 -- proofs/LayoutLaws shows that it is the rule of owners.
 use mathlib.Core.Path.{_≡_}
-use mathlib.Core.Bool.{Bool, cond}
+use mathlib.Core.Bool.{Bool, cond, not, _&&_}
 use mathlib.Core.List.{List, [], _∷_, _++_}
 use Prim.Native.Nat.{ℕ, zero, suc, _+_, _-_, _≤_, _<_, min}
 use lib.Dec.{leb}
@@ -38,6 +38,10 @@ rowsBy p (suc n) = rowsBy p n ++ rowBy p (suc n)
 -- how many of SC octets 1 to n data holds
 abbrev pub sc : Layout → ℕ → ℕ
 sc p n = min n (p .last) + 1 - p .first
+
+-- data's SC octets neither begin nor end inside the eight octets o + 1 to o + 8: it has the SC bit of all of them or of none
+unfoldable pub uncutAt : Layout → ℕ → Bool
+uncutAt p o = not (leb (o + 2) (p .first) && leb (p .first) (o + 8)) && not (leb (o + 1) (p .last) && leb (p .last) (o + 7))
 
 -- the four numbers lie in a frame
 pub record Apart (p : Layout) : Type 0 where

@@ -10,7 +10,7 @@ ghost use Rattle.frame.specs.Service.{serviceRows};
 ghost use Rattle.frame.specs.Block.{serviceBits, heard, streams, fitting, lineAfter};
 ghost use Rattle.bas.specs.Reading.{weight};
 ghost use Rattle.frame.specs.Channel.{channelBits, wrongBits, oddFirst, cBits, basWord};
-ghost use Rattle.frame.specs.Layout.{layoutOf, channelBy, rowBy, rowsBy, sc, Ready, frameSources, frameBy};
+ghost use Rattle.frame.specs.Layout.{layoutOf, channelBy, rowBy, rowsBy, uncutAt, sc, Ready, frameSources, frameBy};
 use modes::BlockNumber;
 use modes::Mode;
 use modes::Owner;
@@ -120,6 +120,20 @@ fn voice_bits(voice: &[u8], mute: bool, at: usize, n: usize) -> usize
         return (1 << n) - 1;
     }
     bits_at(voice, at, n)
+}
+
+// Whether data has the SC bit of all of octets o + 1 to o + 8, or of none: then the eight can be taken together.
+pub fn uncut(p: Layout, o: usize) -> bool
+    ensures { λ r. ⌜ r ≡ uncutAt p o ⌝ }
+{
+    let first = p.first as usize;
+    let last = p.last as usize;
+    if 255 < o {
+        return true;
+    }
+    let begins = (o + 2 <= first) & (first <= o + 8);
+    let ends = (o + 1 <= last) & (last <= o + 7);
+    !begins & !ends
 }
 
 // How many of SC octets 1 to n data holds.
