@@ -1,6 +1,7 @@
 pub mod BackLaws
 pub mod BlockLaws
 pub mod ChannelLaws
+pub mod EightLaws
 pub mod LayoutLaws
 pub mod OctetLaws
 pub mod StreamLaws

@@ -3,7 +3,8 @@ use mathlib.Core.Path.{_≡_, refl, ap, ap₂, _∙_}
 use mathlib.Core.Bool.{Bool, true, false, cond}
 use mathlib.Core.List.{List, [], _∷_, _++_}
 use Prim.Native.Nat.{ℕ, zero, suc, _+_, _-_, _*_, _^_, _≤_, _<_, min}
-use native.Mathlib.Nat.{zero-add, add-zero, pow-succ', one-mul, mul-one, mul-le-mul, suc-mul}
+use native.Mathlib.Nat.{zero-add, add-zero, pow-suc, pow-succ', one-mul, mul-one, mul-assoc, mul-le-mul, suc-mul}
+use native.Mathlib.Numerals.{add-one}
 use native.Mathlib.Omega.{arith}
 use borrow.Author.Tests.{leb-true, le-leb, lt-leb}
 use lib.Dec.{leb}
@@ -115,6 +116,20 @@ channel-next p o service voice lsd h = go (leb (o + 1) 16) (leb (p .first) (o + 
     go false true true e = rw (rest-at, before-lsd p o h)
     go false true false e = rw (rest-at, drop-nil)
     go false false c e = rw (rest-at, drop-nil)
+
+-- ---- octet o + 1 in two parts: voice and nobody's ones, and the last bits, which are data's and the channel's
+join-tail : (x c low last : ℕ) → (x * 2 ^ c + low) * 2 + last ≡ x * 2 ^ (c + 1) + (low * 2 + last)
+join-tail x c low last = rw (add-one, pow-suc, ← mul-assoc x (2 ^ c) 2) (omega arith)
+
+pub octet-parts : (p : Layout) (o : ℕ) (service voice lsd : List Bool) → Apart p
+    → number (fill (rowBy p (o + 1)) (rest (rowsBy p o) (streams service voice lsd)))
+    ≡ (number (nexts (p .width) (drop (o * p .width) voice)) * 2 ^ (7 - (p .width + p .columns))
+    + (2 ^ (7 - (p .width + p .columns)) - 1)) * 2 ^ (p .columns + 1)
+    + (number (nexts (p .columns) (drop (o * p .columns + sc p o) lsd)) * 2
+    + digit (getD (streams (drop o service) [] (drop (o * p .columns + sc p o + p .columns) lsd) (channelBy p (o + 1))) 0 true))
+octet-parts p o service voice lsd h =
+    octet-at p o (streams service voice lsd) refl h
+    ∙ rw (channel-next p o service voice lsd h) (join-tail _ (p .columns) _ _)
 
 -- which owner that is
 pub channel-service : (p : Layout) (o : ℕ) → o ≤ 16 → channelBy p o ≡ Service

@@ -4,7 +4,7 @@ use mathlib.Core.Bool.{Bool, true, false, cond}
 use mathlib.Core.Logic.{_⊎_, inl, inr, ⊎-elim}
 use mathlib.Core.List.{List, [], _∷_, _++_, append-assoc}
 use Prim.Native.Nat.{ℕ, zero, suc, _+_, _≤_, _<_}
-use native.Mathlib.Nat.{zero-add, add-assoc, not-suc-le-zero, le-of-suc-le-suc}
+use native.Mathlib.Nat.{zero-add, suc-add, add-assoc, not-suc-le-zero, le-of-suc-le-suc}
 use native.Mathlib.Numerals.{one-add}
 use native.Mathlib.Omega.{arith}
 use lib.Dec.{eqb}
@@ -125,6 +125,11 @@ unfolding nexts
 nexts-take zero l h = refl
 nexts-take (suc n) [] h = absurd (not-suc-le-zero h)
 nexts-take (suc n) (b ∷ bs) h = rw (nexts-take n bs (le-of-suc-le-suc h))
+
+pub nexts-append : (m n : ℕ) (l : List Bool) → nexts (m + n) l ≡ nexts m l ++ nexts n (drop m l)
+unfolding nexts
+nexts-append zero n l = rw zero-add
+nexts-append (suc m) n l = rw (suc-add, nexts-append m n (drop 1 l), drop-drop m 1 l, one-add)
 
 -- ---- sorting by parts
 pub sort-append : (o : Owner) (ps qs : List Owner) (bs : List Bool) → sort o (ps ++ qs) bs ≡ sort o ps bs ++ sort o qs (drop (length ps) bs)

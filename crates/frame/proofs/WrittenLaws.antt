@@ -8,8 +8,8 @@ use native.Mathlib.Nat.{add-zero, eq-or-lt-of-le, le-of-suc-le-suc}
 use native.Mathlib.Numerals.{add-one}
 use native.Mathlib.Omega.{arith}
 use borrow.Rule.Slice.PartMut.{putMid}
-use lib.ListN.{length, getD, List·getD-append, drop, length-append, drop-of-length-le}
-use lib.Seq.{drop-nil, drop-at, take-at, getD-append-add}
+use lib.ListN.{length, getD, List·getD-append, take, drop, set, length-append, drop-of-length-le}
+use lib.Seq.{length-take-le, drop-nil, drop-drop, take-add, drop-at, take-at, getD-append-add, paste, paste-suc}
 use Rattle.bits.specs.Bits.{number, octets}
 use Rattle.bits.proofs.PackLaws.{length-octets, octets-append, octets-one}
 use Rattle.modes.specs.declared.Owner.{Owner}
@@ -95,3 +95,13 @@ octet-done p s (suc n) o h l =
     ∙ ap (λ (k : ℕ). number (fill (rowBy p (k + 1)) (rest (rowsBy p k) s))) (sym e))
     (λ i. List·getD-append (done p s n) (x ∷ []) 0 o (rw len i) ∙ octet-done p s n o h i)
     (eq-or-lt-of-le (le-of-suc-le-suc l))
+
+-- ---- octets written over others: one more of a run, and a run that follows what was written
+pub one-over : (d : List ℕ) (at : ℕ) (s : List ℕ) (k x : ℕ) → at + k < length d → k < length s → x ≡ getD s k 0
+    → set (paste d at s k) (at + k) x ≡ paste d at s (k + 1)
+one-over d at s k x hd hs e = rw (e, add-one) (paste-suc d at s k 0 hd hs)
+
+pub run-over : (fs d : List ℕ) (o n : ℕ) → o ≤ length fs → paste (take o fs ++ drop o d) o (drop o fs) n ≡ take (o + n) fs ++ drop (o + n) d
+run-over fs d o n h =
+    let l : length (take o fs) ≡ o = length-take-le o fs h in
+    rw (take-at (take o fs) (drop o d) o l, ← take-add o n fs, ← drop-drop n o (take o fs ++ drop o d), drop-at (take o fs) (drop o d) o l, drop-drop n o d)

@@ -3,7 +3,7 @@
 use mathlib.Core.Path.{_≡_}
 use mathlib.Core.Bool.{Bool, cond, not, _&&_}
 use mathlib.Core.List.{List, [], _∷_, _++_}
-use Prim.Native.Nat.{ℕ, zero, suc, _+_, _-_, _≤_, _<_, min}
+use Prim.Native.Nat.{ℕ, zero, suc, _+_, _-_, _%_, _≤_, _<_, min}
 use lib.Dec.{leb}
 use lib.ListN.{length, drop, replicate}
 use Rattle.bits.specs.Bits.{lowBits, bitsOf, octets}
@@ -57,10 +57,11 @@ frameSources service mute voice v lsd d = streams (lowBits 16 service) (drop v (
 unfoldable pub frameBy : Layout → Streams → List ℕ
 frameBy p s = octets 80 (fill (rowsBy p 80) s)
 
--- buffers of the right length, read from no later than an odd frame reads them
+-- buffers of the right length, read from no later than an odd frame reads them, and voice from an octet's first bit on
 pub record Ready (p : Layout) (voice : List ℕ) (v : ℕ) (lsd : List ℕ) (d : ℕ) : Type 0 where
   pub apart : Apart p
   pub spoken : length voice ≡ 140
   pub given : length lsd ≡ 156
   pub from : v ≤ 560
+  pub whole : v % 8 ≡ 0
   pub on : d ≤ 624

@@ -3,3 +3,4 @@ pub mod Service
 pub mod Block
 pub mod Channel
 pub mod Layout
+pub mod Eight

@@ -1,15 +1,17 @@
 // The frames of a block: service rows, the writer, and what the service channel of a block says (document 01).
 ghost use mathlib.Core.Path.{_≡_};
-ghost use mathlib.Core.Bool.{true};
+ghost use mathlib.Core.Bool.{true, false};
 ghost use mathlib.Core.List.{[], _++_};
-ghost use Prim.Native.Nat.{_+_, _-_, _*_, _^_, _<_, _≤_};
+ghost use Prim.Native.Nat.{_+_, _-_, _*_, _%_, _^_, _<_, _≤_};
 ghost use lib.ListN.{length, getD, drop};
+ghost use lib.Seq.{paste};
 ghost use Rattle.bits.specs.Bits.{odd, bitsOf, lowBits, octetBits, digit, number, octets};
 ghost use Rattle.frame.specs.Streams.{nexts, fill, rest};
 ghost use Rattle.frame.specs.Service.{serviceRows};
 ghost use Rattle.frame.specs.Block.{serviceBits, heard, streams, fitting, lineAfter};
 ghost use Rattle.bas.specs.Reading.{weight};
 ghost use Rattle.frame.specs.Channel.{channelBits, wrongBits, oddFirst, cBits, basWord};
+ghost use Rattle.frame.specs.Eight.{fieldOf, tailOf, octetOf, eightOf, owns, dataBits, eightAt};
 ghost use Rattle.frame.specs.Layout.{layoutOf, channelBy, rowBy, rowsBy, uncutAt, sc, Ready, frameSources, frameBy};
 use modes::BlockNumber;
 use modes::Mode;
@@ -174,12 +176,12 @@ fn channel_bit(p: Layout, o: usize, service: u16, lsd: &[u8], at: usize) -> usiz
     bits_at(lsd, at, 1)
 }
 
-// An octet's number: voice, g ones, c data bits and the SC bit.
-fn joined(voice: usize, g: usize, c: usize, lsd: usize, last: usize) -> usize
-    requires { ⌜ (voice < 256) × (g ≤ 7) × (c ≤ 7) × (lsd < 256) × (last < 256) ⌝ }
-    ensures { λ r. ⌜ r ≡ ((voice * 2 ^ g + (2 ^ g - 1)) * 2 ^ c + lsd) * 2 + last ⌝ }
+// An octet's number: voice, g ones, and the t bits after them: data's and the SC bit.
+fn joined(voice: usize, g: usize, t: usize, tail: usize) -> usize
+    requires { ⌜ (voice < 256) × (g ≤ 7) × (t ≤ 8) × (tail < 1024) ⌝ }
+    ensures { λ r. ⌜ r ≡ (voice * 2 ^ g + (2 ^ g - 1)) * 2 ^ t + tail ⌝ }
 {
-    ((((voice << g) + ((1 << g) - 1)) << c) + lsd) * 2 + last
+    (voice << (g + t)) + (((1 << g) - 1) << t) + tail
 }
 
 // Octet o + 1 of a frame.
@@ -203,10 +205,227 @@ fn octet_of(
     let high = voice_bits(voice, mute, v + o * w, w);
     let low = bits_at(lsd, at, c);
     let last = channel_bit(p, o, service, lsd, at + c);
-    joined(high, 7 - (w + c), c, low, last) as u8
+    joined(high, 7 - (w + c), c + 1, low * 2 + last) as u8
 }
 
-// One frame, whole: 80 octets.
+// Octets o + 1 to o + 8 of a frame, each by itself.
+fn write_each(
+    frame: &mut [u8],
+    p: Layout,
+    o: usize,
+    service: u16,
+    mute: bool,
+    voice: &[u8],
+    v: usize,
+    lsd: &[u8],
+    d: usize,
+)
+    requires { ⌜ (length (now frame) ≡ 80) × (o + 8 ≤ 80) ⌝ }
+    requires { ⌜ Ready p (now voice) v (now lsd) d ⌝ }
+    ensures { λ _. ⌜ now (frame .exit) ≡ paste (now (frame .entry)) o (drop o (frameBy p (frameSources service mute (now (voice .entry)) v (now (lsd .entry)) d))) 8 ⌝ }
+{
+    for k in 0..8 {
+        frame[o + k] = octet_of(p, o + k, service, mute, voice, v, lsd, d);
+    }
+}
+
+// n octets of a buffer from octet i on, eight at most, as one number.
+fn octets_at(buffer: &[u8], i: usize, n: usize) -> usize
+    requires { ⌜ (n ≤ 8) × (i + n ≤ length (now buffer)) ⌝ }
+    ensures { λ r. ⌜ r ≡ number (nexts (8 * n) (drop (8 * i) (bitsOf (now (buffer .entry))))) ⌝ }
+{
+    let mut x = 0;
+    for j in 0..n {
+        x = x * 256 + (buffer[i + j] as usize);
+    }
+    x
+}
+
+// n octets of voice from octet i on, seven at most, as one number: ones where voice is muted.
+fn voice_at(voice: &[u8], mute: bool, i: usize, n: usize) -> usize
+    requires { ⌜ (n ≤ 7) × (i + n ≤ length (now voice)) ⌝ }
+    ensures { λ r. ⌜ r ≡ number (nexts (8 * n) (drop (8 * i) (heard mute (bitsOf (now (voice .entry)))))) ⌝ }
+{
+    if !mute {
+        return octets_at(voice, i, n);
+    }
+    (1 << (8 * n)) - 1
+}
+
+// The SC bits of octets o + 1 to o + 8, as a number, where they are not data's: service bits in the first sixteen octets, then ones.
+fn channel_at(o: usize, service: u16) -> usize
+    requires { ⌜ o % 8 ≡ 0 ⌝ }
+    ensures { λ r. ⌜ r ≡ number (nexts 8 (drop o (lowBits 16 service))) ⌝ }
+{
+    if o == 0 {
+        return (service as usize) / 256;
+    }
+    if o == 8 {
+        return (service as usize) % 256;
+    }
+    255
+}
+
+// Whether data has the SC bit of octet o + 1.
+fn owned_at(p: Layout, o: usize) -> bool
+    requires { ⌜ o < 80 ⌝ }
+    ensures { λ r. ⌜ r ≡ owns p o ⌝ }
+{
+    let first = p.first as usize;
+    let last = p.last as usize;
+    (first <= o + 1) & (o + 1 <= last)
+}
+
+// How many bits of an octet are data's: its columns, and the SC bit where that is owned.
+fn data_bits(c: usize, owned: bool) -> usize
+    requires { ⌜ c ≤ 7 ⌝ }
+    ensures { λ r. ⌜ r ≡ dataBits c owned ⌝ }
+{
+    if owned {
+        return c + 1;
+    }
+    c
+}
+
+// Eight octets of a frame: their voice, their data and their SC bits, each as one number, and whether the SC bits are data's and stand
+// with it.
+struct Eight {
+    voice: usize,
+    lsd: usize,
+    channel: usize,
+    owned: bool,
+}
+
+// Octets o + 1 to o + 8, their voice from octet i of its buffer on and their data from octet j of its own.
+fn eight_of(
+    p: Layout,
+    o: usize,
+    service: u16,
+    mute: bool,
+    voice: &[u8],
+    i: usize,
+    lsd: &[u8],
+    j: usize,
+) -> Eight
+    requires { ⌜ (p .width + p .columns ≤ 7) × (o < 80) × (o % 8 ≡ 0) ⌝ }
+    requires { ⌜ (i + p .width ≤ length (now voice)) × (j + dataBits (p .columns) (owns p o) ≤ length (now lsd)) ⌝ }
+    ensures { λ r. ⌜ r ≡ eightAt p o (drop o (lowBits 16 service)) (drop (8 * i) (heard mute (bitsOf (now (voice .entry))))) (drop (8 * j) (bitsOf (now (lsd .entry)))) ⌝ }
+{
+    let w = p.width as usize;
+    let c = p.columns as usize;
+    let owned = owned_at(p, o);
+    let n = data_bits(c, owned);
+    Eight {
+        voice: voice_at(voice, mute, i, w),
+        lsd: octets_at(lsd, j, n),
+        channel: channel_at(o, service),
+        owned: owned,
+    }
+}
+
+// Field k of a number's eight, each of so many bits.
+fn field(x: usize, bits: usize, k: usize) -> usize
+    requires { ⌜ (bits ≤ 8) × (k < 8) ⌝ }
+    ensures { λ r. ⌜ r ≡ fieldOf x bits k ⌝ }
+{
+    (x >> ((7 - k) * bits)) % (1 << bits)
+}
+
+// The last bits of octet k of the eight: data's and the SC bit.
+fn tail(e: Eight, c: usize, k: usize) -> usize
+    requires { ⌜ (c ≤ 7) × (k < 8) ⌝ }
+    ensures { λ r. ⌜ r ≡ tailOf c e k ⌝ }
+{
+    if e.owned {
+        return field(e.lsd, c + 1, k);
+    }
+    field(e.lsd, c, k) * 2 + field(e.channel, 1, k)
+}
+
+// Octet k of the eight.
+fn octet_in(p: Layout, e: Eight, k: usize) -> u8
+    requires { ⌜ (p .width + p .columns ≤ 7) × (k < 8) ⌝ }
+    ensures { λ r. ⌜ r ≡ octetOf p e k ⌝ }
+{
+    let w = p.width as usize;
+    let c = p.columns as usize;
+    let high = field(e.voice, w, k);
+    joined(high, 7 - (w + c), c + 1, tail(e, c, k)) as u8
+}
+
+// The eight octets, whatever data has of them.
+fn write_mixed(frame: &mut [u8], o: usize, p: Layout, e: Eight)
+    requires { ⌜ (length (now frame) ≡ 80) × (o + 8 ≤ 80) × (p .width + p .columns ≤ 7) ⌝ }
+    ensures { λ _. ⌜ now (frame .exit) ≡ paste (now (frame .entry)) o (eightOf p e) 8 ⌝ }
+{
+    for k in 0..8 {
+        frame[o + k] = octet_in(p, e, k);
+    }
+}
+
+// Octet k of the eight where data has no bit of them.
+fn plain_in(p: Layout, e: Eight, k: usize) -> u8
+    requires { ⌜ (p .width ≤ 7) × (p .columns ≡ 0) × (e .owned ≡ false) × (k < 8) ⌝ }
+    ensures { λ r. ⌜ r ≡ octetOf p e k ⌝ }
+{
+    let w = p.width as usize;
+    let high = field(e.voice, w, k);
+    joined(high, 7 - w, 1, field(e.channel, 1, k)) as u8
+}
+
+// The eight octets, of voice and SC bits alone.
+fn write_plain(frame: &mut [u8], o: usize, p: Layout, e: Eight)
+    requires { ⌜ (length (now frame) ≡ 80) × (o + 8 ≤ 80) ⌝ }
+    requires { ⌜ (p .width ≤ 7) × (p .columns ≡ 0) × (e .owned ≡ false) ⌝ }
+    ensures { λ _. ⌜ now (frame .exit) ≡ paste (now (frame .entry)) o (eightOf p e) 8 ⌝ }
+{
+    for k in 0..8 {
+        frame[o + k] = plain_in(p, e, k);
+    }
+}
+
+// The eight octets, written from octet o + 1 on. Where data has no bit of them, as in every block of voice alone, a shorter loop does.
+fn write_eight(frame: &mut [u8], o: usize, p: Layout, e: Eight)
+    requires { ⌜ (length (now frame) ≡ 80) × (o + 8 ≤ 80) × (p .width + p .columns ≤ 7) ⌝ }
+    ensures { λ _. ⌜ now (frame .exit) ≡ paste (now (frame .entry)) o (eightOf p e) 8 ⌝ }
+{
+    if data_bits(p.columns as usize, e.owned) == 0 {
+        write_plain(frame, o, p, e);
+        return;
+    }
+    write_mixed(frame, o, p, e);
+}
+
+// Octets o + 1 to o + 8 of a frame: together where data's SC octets do not cut them, and their data, if any, begins with an octet of its
+// buffer.
+fn write_some(
+    frame: &mut [u8],
+    p: Layout,
+    o: usize,
+    service: u16,
+    mute: bool,
+    voice: &[u8],
+    v: usize,
+    lsd: &[u8],
+    d: usize,
+)
+    requires { ⌜ (length (now frame) ≡ 80) × (o + 8 ≤ 80) × (o % 8 ≡ 0) ⌝ }
+    requires { ⌜ Ready p (now voice) v (now lsd) d ⌝ }
+    ensures { λ _. ⌜ now (frame .exit) ≡ paste (now (frame .entry)) o (drop o (frameBy p (frameSources service mute (now (voice .entry)) v (now (lsd .entry)) d))) 8 ⌝ }
+{
+    let w = p.width as usize;
+    let c = p.columns as usize;
+    let at = d + o * c + sc_before(p, o);
+    let n = data_bits(c, owned_at(p, o));
+    if uncut(p, o) & ((n == 0) | (at % 8 == 0)) {
+        let e = eight_of(p, o, service, mute, voice, (v + o * w) / 8, lsd, at / 8);
+        write_eight(frame, o, p, e);
+        return;
+    }
+    write_each(frame, p, o, service, mute, voice, v, lsd, d);
+}
+
+// One frame, whole: 80 octets, eight at a time.
 fn write_frame(
     frame: &mut [u8],
     p: Layout,
@@ -223,8 +442,8 @@ fn write_frame(
 {
     let mut o = 0;
     while o < 80 {
-        frame[o] = octet_of(p, o, service, mute, voice, v, lsd, d);
-        o += 1;
+        write_some(frame, p, o, service, mute, voice, v, lsd, d);
+        o += 8;
     }
 }
 

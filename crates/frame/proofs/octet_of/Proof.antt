@@ -1,5 +1,5 @@
 -- `frame::octet_of` meets its contract: the law of an octet, at what its callees ensure.
-use mathlib.Core.Path.{_≡_, refl}
+use mathlib.Core.Path.{_≡_}
 use mathlib.Core.Bool.{Bool, true, false}
 use mathlib.Core.List.{[]}
 use Prim.Native.Nat.{_+_, _*_, _<_}
@@ -12,7 +12,7 @@ use lib.Dec.{lit<}
 use Rattle.frame.specs.Streams.{fill, rest}
 use Rattle.frame.specs.Block.{heard, streams}
 use Rattle.frame.specs.Layout.{rowBy, rowsBy, channelBy, sc, frameSources}
-use Rattle.frame.proofs.OctetLaws.{before, nexts-lt, octet-lt, octet-at, channel-next}
+use Rattle.frame.proofs.OctetLaws.{before, nexts-lt, octet-lt, octet-parts}
 use borrow.Author.Needs.{needs}
 use Rattle.frame.proofs.octet_of.Statement.{statement}
 use Rattle.frame.proofs.octet_of.Tie as tie
@@ -34,7 +34,16 @@ right c =
     let k = a .p .columns in
     let sum : a .d + (a .o * k + sc (a .p) (a .o)) ≡ a .d + a .o * k + sc (a .p) (a .o) = omega arith in
     let next : a .d + (a .o * k + sc (a .p) (a .o) + k) ≡ a .d + a .o * k + sc (a .p) (a .o) + k = omega arith in
-    rw (octet-at (a .p) (a .o) (frameSources (a .service) (a .mute) (now (a .voice)) (a .v) (now (a .lsd)) (a .d)) refl ok, channel-next (a .p) (a .o) (lowBits 16 (a .service)) (drop (a .v) hs) (drop (a .d) ds) ok, drop-drop (a .o * w) (a .v) hs, drop-drop (a .o * k + sc (a .p) (a .o)) (a .d) ds, drop-drop (a .o * k + sc (a .p) (a .o) + k) (a .d) ds, sum, next, c .joined .ensures, c .before .before .before .voice-bits .ensures, c .before .before .bits-at .ensures, c .before .channel-bit .ensures, c .before .before .before .before .sc-before .ensures)
+    rw (octet-parts (a .p) (a .o) (lowBits 16 (a .service)) (drop (a .v) hs) (drop (a .d) ds) ok, drop-drop (a .o * w) (a .v) hs, drop-drop (a .o * k + sc (a .p) (a .o)) (a .d) ds, drop-drop (a .o * k + sc (a .p) (a .o) + k) (a .d) ds, sum, next, c .joined .ensures, c .before .before .before .voice-bits .ensures, c .before .before .bits-at .ensures, c .before .channel-bit .ensures, c .before .before .before .before .sc-before .ensures)
+
+low-lt : (c : tie.After-bits-at) → c .bits-at .result < 256
+low-lt c = rw (c .bits-at .ensures) (nexts-lt _ _ (omega arith))
+
+last-lt : (c : tie.After-channel-bit) → c .channel-bit .result < 256
+last-lt c =
+    let a = c .before .before .before .before .before .before .before .before .args in
+    let at = a .d + a .o * a .p .columns + c .before .before .before .sc-before .result in
+    rw (c .channel-bit .ensures) (digit-lt (getD (streams (drop (a .o) (lowBits 16 (a .service))) [] (drop (at + a .p .columns) (bitsOf (now (a .lsd)))) (channelBy (a .p) (a .o + 1))) 0 true))
 
 cast-w : tie.Need-cast-w
 cast-w c = search needs
@@ -96,17 +105,22 @@ add-joined c = search needs
 sub-joined : tie.Need-sub-joined
 sub-joined c = search needs
 
+add-joined-2 : tie.Need-add-joined-2
+add-joined-2 c = search needs
+
+mul-joined : tie.Need-mul-joined
+mul-joined c = omega (arith, low-lt (c .before))
+
+add-joined-3 : tie.Need-add-joined-3
+add-joined-3 c = omega (arith, low-lt (c .before), last-lt c)
+
 joined-requires : tie.Need-joined-requires
-joined-requires c κs =
-    let a = c .before .before .before .before .before .before .before .before .args in
-    let at = a .d + a .o * a .p .columns + c .before .before .before .sc-before .result in
-    let last = getD (streams (drop (a .o) (lowBits 16 (a .service))) [] (drop (at + a .p .columns) (bitsOf (now (a .lsd)))) (channelBy (a .p) (a .o + 1))) 0 true in (
-      rw (c .before .before .voice-bits .ensures) (nexts-lt _ _ (omega arith)),
-      omega arith,
-      omega arith,
-      rw (c .before .bits-at .ensures) (nexts-lt _ _ (omega arith)),
-      rw (c .channel-bit .ensures) (digit-lt last),
-    )
+joined-requires c κs = (
+  rw (c .before .before .voice-bits .ensures) (nexts-lt _ _ (omega arith)),
+  omega arith,
+  omega arith,
+  omega (arith, low-lt (c .before), last-lt c),
+)
 
 cast-result : tie.Need-cast-result
 cast-result c =
@@ -134,6 +148,9 @@ octet-of-spec =
     channel-bit-requires
     add-joined
     sub-joined
+    add-joined-2
+    mul-joined
+    add-joined-3
     joined-requires
     cast-result
     returns)

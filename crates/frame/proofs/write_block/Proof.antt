@@ -40,6 +40,7 @@ fill-block-requires c κs =
         spoken = fit .1;
         given = fit .2;
         from = omega arith;
+        whole = omega arith;
         on = omega arith;
       },
     )

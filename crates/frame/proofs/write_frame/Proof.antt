@@ -1,33 +1,30 @@
 -- `frame::write_frame` meets its contract: the loop's invariant: the first o octets are the definition's, and the rest is as it was.
-use mathlib.Core.Path.{_≡_, refl, sym, ap, _∙_}
-use mathlib.Core.List.{List, [], _∷_, _++_, append-nil}
-use Prim.Native.Nat.{ℕ, _+_, _-_, _≤_}
+use mathlib.Core.Path.{_≡_, refl, ap, ap₂, _∙_}
+use mathlib.Core.List.{List, _++_, append-nil}
+use Prim.Native.Nat.{ℕ, _-_, _%_, _≤_}
 use native.Mathlib.Omega.{arith}
-use borrow.Author.Needs.{needs}
 use denote.Ref.{now}
-use lib.ListN.{length, drop, set, length-set, drop-of-length-le}
-use Rattle.bits.specs.Bits.{octets}
-use Rattle.bits.proofs.PackLaws.{length-octets, one-more}
-use Rattle.frame.specs.Layout.{frameSources, frameBy}
-use Rattle.frame.proofs.WrittenLaws.{done, done-more}
+use lib.ListN.{length, take, drop, drop-of-length-le}
+use lib.Seq.{take-all, paste}
+use Rattle.bits.proofs.PackLaws.{length-octets}
+use Rattle.frame.specs.Streams.{fill}
+use Rattle.frame.specs.Layout.{rowsBy, frameSources, frameBy}
+use Rattle.frame.proofs.WrittenLaws.{run-over}
+use borrow.Author.Needs.{needs}
 use Rattle.frame.proofs.write_frame.Statement.{statement}
 use Rattle.frame.proofs.write_frame.Tie as tie
 
 abbrev Inv-loop : tie.InvT-loop
-Inv-loop frame₀ p service mute voice v lsd d o₀ frame o = (o ≤ 80) × (length frame ≡ length frame₀) × (frame ≡ done p (frameSources service mute voice v lsd d) o ++ drop o frame₀)
+Inv-loop frame₀ p service mute voice v lsd d o₀ frame o = (o ≤ 80) × (o % 8 ≡ 0) × (length frame ≡ length frame₀) × (frame ≡ take o (frameBy p (frameSources service mute voice v lsd d)) ++ drop o frame₀)
 
 abbrev μ-loop : tie.MeasureT-loop
 μ-loop frame₀ p service mute voice v lsd d o₀ frame o = 80 - o
 
 loop-holds : tie.Need-loop-holds Inv-loop μ-loop
-unfolding octets
-loop-holds c = (search needs, search needs, refl)
+loop-holds c = (search needs, search needs, search needs, refl)
 
-octet-of-requires : tie.Need-octet-of-requires Inv-loop μ-loop
-octet-of-requires c κs = search needs
-
-slice-write-frame : tie.Need-slice-write-frame Inv-loop μ-loop
-slice-write-frame c = search needs
+write-some-requires : tie.Need-write-some-requires Inv-loop μ-loop
+write-some-requires c κs = search needs
 
 add-o : tie.Need-add-o Inv-loop μ-loop
 add-o c = search needs
@@ -36,16 +33,18 @@ loop-less : tie.Need-loop-less Inv-loop μ-loop
 loop-less c = search needs
 
 loop-again : tie.Need-loop-again Inv-loop μ-loop
+unfolding frameBy
 loop-again c =
-    let a = c .before .before .before .before .before .before .args in
-    let l = c .before .before .loop in
-    let s = frameSources (a .service) (a .mute) (now (a .voice)) (a .v) (now (a .lsd)) (a .d) in (
+    let a = c .before .before .before .before .before .before .before .before .before .args in
+    let l = c .before .before .before .before .before .loop in
+    let call = c .before .before .write-some in
+    let s = frameSources (a .service) (a .mute) (a .voice .now) (a .v) (a .lsd .now) (a .d) in
+    let fs = frameBy (a .p) s in
+    let long : l .o ≤ length fs = rw (length-octets 80 (fill (rowsBy (a .p) 80) s)) (omega arith) in (
       omega arith,
-      simp length-set (l .inv .1),
-      ap (λ (f : List ℕ). set f (l .o) (c .octet-of .result)) (l .inv .2)
-          ∙ one-more (done (a .p) s) (now (a .frame)) (l .o) (c .octet-of .result) (length-octets (l .o) _)
-          (done-more (a .p) s (l .o) (omega arith) ∙ ap (λ (x : ℕ). done (a .p) s (l .o) ++ (x ∷ [])) (sym (c .octet-of .ensures)))
-          (omega arith),
+      omega arith,
+      call .kept .0 ∙ l .inv .2,
+      call .ensures ∙ ap (λ (f : List ℕ). paste f (l .o) (drop (l .o) fs) 8) (l .inv .3) ∙ run-over fs (a .frame .now) (l .o) 8 long,
     )
 
 same-length : tie.Need-same-length Inv-loop μ-loop
@@ -57,10 +56,12 @@ returns c =
     let a = c .before .before .before .before .before .args in
     let l = c .before .loop in
     let s = frameSources (a .service) (a .mute) (now (a .voice)) (a .v) (now (a .lsd)) (a .d) in
+    let fs = frameBy (a .p) s in
     let e : l .o ≡ 80 = omega arith in
     let n : length (now (a .frame)) ≤ 80 = omega arith in
-    l .inv .2 ∙ ap (λ (k : ℕ). done (a .p) s k ++ drop k (now (a .frame))) e
-    ∙ ap (λ (t : List ℕ). done (a .p) s 80 ++ t) (drop-of-length-le (now (a .frame)) n) ∙ append-nil (done (a .p) s 80)
+    let m : length fs ≤ 80 = rw (length-octets 80 (fill (rowsBy (a .p) 80) s)) (omega arith) in
+    l .inv .3 ∙ ap (λ (k : ℕ). take k fs ++ drop k (now (a .frame))) e
+    ∙ ap₂ _++_ (take-all 80 fs m) (drop-of-length-le (now (a .frame)) n) ∙ append-nil fs
 
 pub write-frame-spec : {M : Type 1} → statement M
 write-frame-spec =
@@ -69,8 +70,7 @@ write-frame-spec =
     Inv-loop
     μ-loop
     loop-holds
-    octet-of-requires
-    slice-write-frame
+    write-some-requires
     add-o
     loop-less
     loop-again
