@@ -1,16 +1,18 @@
--- Laws of the packing queue: what it holds stays below its width, bits more with and without an octet written, and its end.
-use mathlib.Core.Path.{_≡_, ap, sym, _∙_}
+-- Laws of the packing queue: what it holds stays below its width, bits more with and without an octet written, whole octets, and its end.
+use mathlib.Core.Path.{_≡_, refl, ap, sym, _∙_}
 use mathlib.Core.Bool.{Bool}
 use mathlib.Core.List.{List, [], _∷_, _++_}
 use Prim.Native.Nat.{ℕ, zero, suc, _+_, _-_, _*_, _/_, _%_, _^_, _≤_, _<_}
 use native.Mathlib.Omega.{arith}
 use lib.Arith.{digits-lt}
+use lib.Dec.{lit<}
 use lib.Pow.{pow-add, shr-lt}
-use lib.ListN.{length, take, drop, set, replicate, length-append, length-replicate, length-drop, length-set}
-use lib.Seq.{drop-drop, drop-append-le, take-append-le}
+use lib.ListN.{length, take, drop, set, replicate, length-append, length-replicate, length-drop, length-set, drop-of-length-le}
+use lib.Seq.{drop-drop, drop-append-le, drop-append-add, take-append-le, drop-at}
 use Rattle.bits.proofs.PackLaws.{length-octets, octets-snoc, octets-prefix, octets-zeros, padded, first-eight, after-eight, one-more}
 use Rattle.bits.specs.Bits.{number, zeros, octets}
 use Rattle.bits.proofs.BitLaws.{number-append, number-bound}
+use Rattle.bits.proofs.RunLaws.{run-value}
 use Rattle.sorter.specs.Packed.{Packed}
 use Rattle.sorter.specs.declared.Queue.{Queue}
 
@@ -76,6 +78,47 @@ packed-more bs xs was buf q n h h8 l hk hn =
           ap (λ (b : List ℕ). set b (q .at) (n / 2 ^ (m - 8))) (h .done ∙ ap (λ (b : List ℕ). b ++ drop (q .at) was) (sym before))
           ∙ one-more (λ (j : ℕ). octets j all) was (q .at) (n / 2 ^ (m - 8)) (length-octets (q .at) all) written hk;
     }
+
+-- ---- nothing waits, and n octets come
+-- the first j of them are written, and one more: it is the number's octet j
+pub octets-more : (bs xs : List Bool) (was : List ℕ) (k j n : ℕ) → length bs ≡ k * 8 → length xs ≡ 8 * n → j < n → k + j < length was
+    → set (octets (k + j) (bs ++ xs) ++ drop (k + j) was) (k + j) (number xs / 2 ^ (8 * (n - 1 - j)) % 256)
+    ≡ octets (k + (j + 1)) (bs ++ xs) ++ drop (k + (j + 1)) was
+octets-more bs xs was k j n hb hx hj hk =
+    let all : List Bool = bs ++ xs in
+    let x : ℕ = number xs / 2 ^ (8 * (n - 1 - j)) % 256 in
+    let e : k + j + 1 ≡ k + (j + 1) = omega arith in
+    let past : (k + j) * 8 ≡ length bs + j * 8 = omega arith in
+    let here : drop ((k + j) * 8) all ≡ drop (j * 8) xs = ap (λ (m : ℕ). drop m all) past ∙ drop-append-add bs xs (j * 8) in
+    let enough : 8 ≤ length (drop (j * 8) xs) = rw length-drop (omega arith) in
+    let low : length xs - (j * 8 + 8) ≡ 8 * (n - 1 - j) = omega arith in
+    let eight : number (take 8 (drop (j * 8) xs)) ≡ x = rw low at (run-value (j * 8) 8 xs (omega arith)) in
+    let written : octets (k + j + 1) all ≡ octets (k + j) all ++ (x ∷ []) =
+    octets-snoc (k + j) all ∙ ap (λ (z : ℕ). octets (k + j) all ++ (z ∷ [])) (rw here (ap number (take-append-le 8 (drop (j * 8) xs) (zeros 8) enough) ∙ eight)) in
+    one-more (λ (i : ℕ). octets i all) was (k + j) x (length-octets (k + j) all) written hk
+    ∙ ap (λ (i : ℕ). octets i all ++ drop i was) e
+
+pub packed-octets : (bs xs : List Bool) (was buf now : List ℕ) (q : Queue) (n : ℕ) → Packed bs was buf q → q .held ≡ 0 → length xs ≡ 8 * n
+    → q .at + n ≤ length was → now ≡ octets (q .at + n) (bs ++ xs) ++ drop (q .at + n) was
+    → Packed (bs ++ xs) was now (record { at = q .at + n; held = 0; waiting = 0 })
+unfolding number
+packed-octets bs xs was buf now q n h e hx hn d =
+    let all : length (bs ++ xs) ≡ (q .at + n) * 8 = rw length-append (omega arith) in
+    let past : length (bs ++ xs) ≤ (q .at + n) * 8 = omega arith in
+    record {
+      room = rw (d, length-append, length-octets, length-drop) (omega arith);
+      left = lit< tt;
+      ends = all ∙ omega arith;
+      rest = rw (drop-of-length-le (bs ++ xs) past);
+      done = d;
+    }
+
+-- what was there before is of no account where it has been written over
+pub packed-self : (bs : List Bool) (was buf : List ℕ) (q : Queue) → Packed bs was buf q → Packed bs buf buf q
+packed-self bs was buf q h =
+    let k : ℕ = q .at in
+    let same : drop k buf ≡ drop k was = ap (drop k) (h .done) ∙ drop-at (octets k bs) (drop k was) k (length-octets k bs) in
+    record { room = refl; left = h .left; ends = h .ends; rest = h .rest; done = h .done ∙ ap (λ (l : List ℕ). octets k bs ++ l) (sym same) }
 
 -- ---- the end: what was there before is zeros
 abbrev blank : ℕ → List ℕ

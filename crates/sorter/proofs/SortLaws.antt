@@ -1,26 +1,28 @@
--- The run of a stream in an octet, and a block sorted octet by octet: what has come out so far, and that there is room for more.
+-- The run of a stream in an octet, and a block sorted octet by octet or eight at a time: what has come out so far, and that there is room for more.
 use mathlib.Core.Path.{_≡_, refl, ap, sym, _∙_}
 use mathlib.Core.Bool.{Bool, true, false, cond}
 use mathlib.Core.Logic.{_⊎_, inl, inr}
-use mathlib.Core.List.{List, [], _++_, append-assoc, append-nil}
+use mathlib.Core.List.{List, _++_, append-assoc, append-nil}
 use Prim.Native.Nat.{ℕ, zero, suc, _+_, _-_, _*_, _%_, _^_, _≤_, _<_}
-use native.Mathlib.Nat.{mod-eq-of-lt, mul-comm, zero-add, suc-add}
+use native.Mathlib.Nat.{mod-eq-of-lt, mul-comm, zero-add, add-zero, suc-add, zero-mul, suc-mul, lt-of-lt-of-le, mul-le-mul-left}
 use native.Mathlib.Numerals.{add-one}
 use native.Mathlib.Omega.{arith}
-use borrow.Author.Tests.{leb-true, le-leb, lt-leb}
+use borrow.Author.Tests.{leb-true, leb-false, le-leb, lt-leb}
 use lib.Dec.{leb}
+use lib.Pow.{pow-mono}
 use lib.ListN.{length, getD, take, drop, length-append, length-replicate, length-drop, length-take}
 use lib.Seq.{drop-drop, take-add, drop-cons}
 use Rattle.bits.specs.Bits.{bitsOf, octetBits, number}
-use Rattle.bits.proofs.BitLaws.{length-bitsOf, number-bound}
+use Rattle.bits.proofs.BitLaws.{length-bitsOf, number-append, number-bound}
 use Rattle.bits.proofs.RunLaws.{drop-bitsOf, run-left, length-octet}
 use Rattle.modes.specs.declared.Owner.{Owner}
 use Rattle.modes.specs.declared.Owner.the-variants.{Service, Voice, Lsd, Nobody}
 use Rattle.frame.specs.Streams.{same, count, sort}
-use Rattle.frame.specs.Layout.{columnsBy, channelBy, rowBy, rowsBy}
+use Rattle.frame.specs.Layout.{Apart, columnsBy, channelBy, rowBy, rowsBy, uncutAt}
 use Rattle.frame.specs.declared.Layout.{Layout}
 use Rattle.frame.proofs.StreamLaws.{count-append, sort-append, sort-all, sort-none, length-sort}
-use Rattle.frame.proofs.LayoutLaws.{no-voice, length-row}
+use Rattle.frame.proofs.LayoutLaws.{no-voice, length-row, uncut-in, uncut-before}
+use Rattle.sorter.specs.Packed.{blockRows, sofar, runs}
 
 -- ---- the run of a stream in an octet
 pub sort-voice : (p : Layout) (o : ℕ) (bs : List Bool) → sort Voice (rowBy p o) bs ≡ take (p .width) bs
@@ -69,11 +71,7 @@ length-run s n x h = simp (length-take, length-drop, length-octet) (omega arith)
 pub run-lt : (s n x : ℕ) → s + n ≤ 8 → number (take n (drop s (octetBits x))) < 2 ^ n
 run-lt s n x h = rw (length-run s n x h) at (number-bound (take n (drop s (octetBits x))))
 
--- ---- a block, octet by octet: the odd frame's places are those of the even one
-abbrev pub blockRows : Layout → ℕ → List Owner
-blockRows p zero = []
-blockRows p (suc n) = blockRows p n ++ rowBy p (n % 80 + 1)
-
+-- ---- a block, octet by octet
 block-low : (p : Layout) (n : ℕ) → n ≤ 80 → blockRows p n ≡ rowsBy p n
 unfolding rowsBy
 block-low p zero h = refl
@@ -93,10 +91,6 @@ length-block : (p : Layout) (n : ℕ) → p .width + p .columns ≤ 7 → length
 length-block p zero h = refl
 length-block p (suc n) h = simp (length-append, length-block p n h, length-row p (n % 80 + 1) h) (omega arith)
 
--- what has been sorted out of a block's first n octets
-abbrev pub sofar : Layout → Owner → List ℕ → ℕ → List Bool
-sofar p w line n = sort w (blockRows p n) (bitsOf line)
-
 -- one octet more, of which the stream holds a run
 pub sofar-more : (p : Layout) (w : Owner) (line : List ℕ) (o s n : ℕ) → p .width + p .columns ≤ 7 → s + n ≤ 8 → o < length line
     → ((bs : List Bool) → sort w (rowBy p (o % 80 + 1)) bs ≡ take n (drop s bs))
@@ -111,6 +105,71 @@ sofar-more p w line o s n h hn ho run =
     ap (λ (k : ℕ). sort w (blockRows p k) b) (add-one o) ∙ sort-append w (blockRows p o) (rowBy p (o % 80 + 1)) b
     ∙ ap (λ (l : List Bool). sofar p w line o ++ l)
     (rw (run (drop (length (blockRows p o)) b), at, here) (run-left s n (octetBits x) (bitsOf (drop (suc o) line)) fits))
+
+-- ---- octets that hold one run
+pub voice-alike : (p : Layout) (o k : ℕ) (bs : List Bool) → sort Voice (rowBy p (o + k + 1)) bs ≡ sort Voice (rowBy p (o + 1)) bs
+voice-alike p o k bs = sort-voice p (o + k + 1) bs ∙ sym (sort-voice p (o + 1) bs)
+
+pub lsd-alike : (p : Layout) (o k : ℕ) (bs : List Bool) → Apart p → uncutAt p o ≡ true → k < 8
+    → sort Lsd (rowBy p (o + k + 1)) bs ≡ sort Lsd (rowBy p (o + 1)) bs
+lsd-alike p o k bs h u hk = go (leb (p .first) (o + 1)) (leb (o + 1) (p .last)) refl refl
+  where
+    go : (a b : Bool) → leb (p .first) (o + 1) ≡ a → leb (o + 1) (p .last) ≡ b → sort Lsd (rowBy p (o + k + 1)) bs ≡ sort Lsd (rowBy p (o + 1)) bs
+    go false b ea eb =
+        let here = leb-false (p .first) (o + 1) ea in
+        sort-lsd-out p (o + k + 1) bs (h .within) (inl (uncut-before p o k u here hk))
+        ∙ sym (sort-lsd-out p (o + 1) bs (h .within) (inl here))
+    go true false ea eb =
+        let here = leb-false (o + 1) (p .last) eb in
+        sort-lsd-out p (o + k + 1) bs (h .within) (inr (omega arith)) ∙ sym (sort-lsd-out p (o + 1) bs (h .within) (inr here))
+    go true true ea eb =
+        let first = leb-true (p .first) (o + 1) ea in
+        let last = leb-true (o + 1) (p .last) eb in
+        let after = h .after in
+        sort-lsd-in p (o + k + 1) bs (h .within) (omega arith) (omega arith) (uncut-in p o k u last hk)
+        ∙ sym (sort-lsd-in p (o + 1) bs (h .within) (omega arith) first last)
+
+pub length-runs : (s n : ℕ) (line : List ℕ) (o k : ℕ) → s + n ≤ 8 → length (runs s n line o k) ≡ k * n
+unfolding runs
+length-runs s n line o zero h = sym (zero-mul n)
+length-runs s n line o (suc k) h = rw (length-append, length-runs s n line o k h, length-run s n (getD line (o + k) 0) h, suc-mul)
+
+pub number-runs : (s n : ℕ) (line : List ℕ) (o k : ℕ) → s + n ≤ 8
+    → number (runs s n line o (k + 1)) ≡ number (runs s n line o k) * 2 ^ n + number (take n (drop s (octetBits (getD line (o + k) 0))))
+unfolding runs
+number-runs s n line o k h =
+    let run : List Bool = take n (drop s (octetBits (getD line (o + k) 0))) in
+    ap (λ (j : ℕ). number (runs s n line o j)) (add-one k) ∙ number-append (runs s n line o k) run
+    ∙ rw (length-run s n (getD line (o + k) 0) h)
+
+-- at most eight of them are a number of the machine
+pub runs-lt : (s n : ℕ) (line : List ℕ) (o k : ℕ) → s + n ≤ 8 → number (runs s n line o k) < 2 ^ (k * 8)
+runs-lt s n line o k h =
+    let b : number (runs s n line o k) < 2 ^ (k * n) = rw (length-runs s n line o k h) at (number-bound (runs s n line o k)) in
+    lt-of-lt-of-le b (pow-mono (mul-le-mul-left k (omega arith)))
+
+pub sofar-runs : (p : Layout) (w : Owner) (line : List ℕ) (o s n k : ℕ) → p .width + p .columns ≤ 7 → s + n ≤ 8 → o + k ≤ length line
+    → ((j : ℕ) → j < k → (bs : List Bool) → sort w (rowBy p ((o + j) % 80 + 1)) bs ≡ take n (drop s bs))
+    → sofar p w line (o + k) ≡ sofar p w line o ++ runs s n line o k
+unfolding runs
+sofar-runs p w line o s n zero h hn ho run = rw (add-zero o) (sym (append-nil (sofar p w line o)))
+sofar-runs p w line o s n (suc k) h hn ho run =
+    let e : o + suc k ≡ o + k + 1 = omega arith in
+    let x : ℕ = getD line (o + k) 0 in
+    ap (sofar p w line) e
+    ∙ sofar-more p w line (o + k) s n h hn (omega arith) (run k (omega arith))
+    ∙ ap (λ (l : List Bool). l ++ take n (drop s (octetBits x))) (sofar-runs p w line o s n k h hn (omega arith) (λ j l. run j (omega arith)))
+    ∙ append-assoc (sofar p w line o) (runs s n line o k) (take n (drop s (octetBits x)))
+
+-- eight octets of a frame that all hold the run of their first
+pub sofar-eight : (p : Layout) (w : Owner) (line : List ℕ) (o s n : ℕ) → p .width + p .columns ≤ 7 → s + n ≤ 8 → o + 8 ≤ length line → o % 8 ≡ 0
+    → ((bs : List Bool) → sort w (rowBy p (o % 80 + 1)) bs ≡ take n (drop s bs))
+    → ((k : ℕ) → k < 8 → (bs : List Bool) → sort w (rowBy p (o % 80 + k + 1)) bs ≡ sort w (rowBy p (o % 80 + 1)) bs)
+    → sofar p w line (o + 8) ≡ sofar p w line o ++ runs s n line o 8
+sofar-eight p w line o s n h hn ho h8 run same = sofar-runs p w line o s n 8 h hn ho each
+  where
+    each : (k : ℕ) → k < 8 → (bs : List Bool) → sort w (rowBy p ((o + k) % 80 + 1)) bs ≡ take n (drop s bs)
+    each k hk bs = let e : (o + k) % 80 + 1 ≡ o % 80 + k + 1 = omega arith in rw e (same k hk bs ∙ run bs)
 
 -- ---- there is room for what comes out
 pub length-sofar : (p : Layout) (w : Owner) (line : List ℕ) (n : ℕ) → p .width + p .columns ≤ 7 → n ≤ length line
@@ -128,10 +187,9 @@ count-le p w n h =
     ap (λ (k : ℕ). count w (blockRows p k)) e ∙ ap (count w) (block-all p) ∙ count-append w (rowsBy p 80) (rowsBy p 80) in
     omega (arith, grows p w n (160 - n))
 
-pub roomy : (p : Layout) (w : Owner) (line : List ℕ) (o s n : ℕ) → p .width + p .columns ≤ 7 → s + n ≤ 8 → o < length line → length line ≡ 160
-    → ((bs : List Bool) → sort w (rowBy p (o % 80 + 1)) bs ≡ take n (drop s bs))
-    → length (sofar p w line o) + n ≤ 2 * count w (rowsBy p 80)
-roomy p w line o s n h hn ho hl run =
-    let e : length (sofar p w line (o + 1)) ≡ length (sofar p w line o) + n =
-    ap length (sofar-more p w line o s n h hn ho run) ∙ rw (length-append, length-run s n (getD line o 0) hn) in
-    omega (arith, e, length-sofar p w line (o + 1) h (omega arith), count-le p w (o + 1) (omega arith))
+-- the bits that come with one octet more, or with some
+pub roomy : (p : Layout) (w : Owner) (line : List ℕ) (o n : ℕ) (xs : List Bool) → p .width + p .columns ≤ 7 → length line ≡ 160 → n ≤ 160
+    → sofar p w line n ≡ sofar p w line o ++ xs → length (sofar p w line o) + length xs ≤ 2 * count w (rowsBy p 80)
+roomy p w line o n xs h hl hn e =
+    let l : length (sofar p w line n) ≡ length (sofar p w line o) + length xs = ap length e ∙ length-append (sofar p w line o) xs in
+    omega (arith, l, length-sofar p w line n h (omega arith), count-le p w n hn)

@@ -1,14 +1,14 @@
 // Voice and data sorted out of a block's octets, each into a buffer of its own (document 01, 'Reading a block').
 ghost use mathlib.Core.Path.{_≡_};
-ghost use mathlib.Core.Bool.{Bool};
+ghost use mathlib.Core.Bool.{Bool, true};
 ghost use mathlib.Core.List.{List, _++_};
-ghost use Prim.Native.Nat.{ℕ, _+_, _*_, _^_, _<_, _≤_};
+ghost use Prim.Native.Nat.{ℕ, _+_, _*_, _%_, _^_, _<_, _≤_};
 ghost use lib.ListN.{length, drop, take, replicate};
 ghost use Rattle.bits.specs.Bits.{bitsOf, octetBits, octets, number};
 ghost use Rattle.frame.specs.Streams.{count, sort};
 ghost use Rattle.frame.specs.Block.{fitting};
 ghost use Rattle.frame.specs.Layout.{Apart, rowBy, rowsBy};
-ghost use Rattle.sorter.specs.Packed.{Packed, whose};
+ghost use Rattle.sorter.specs.Packed.{whose, sofar, runs, Packed, Ready};
 ghost use Rattle.sorter.specs.Sorting.{voiceAfter, lsdAfter};
 use frame::Layout;
 use modes::Mode;
@@ -123,6 +123,82 @@ fn finish(out: &mut [u8], q: Queue)
     }
 }
 
+// Whether a stream has one run in all of octets o + 1 to o + 8 of a frame.
+fn alike(p: Layout, t: Stream, o: usize) -> bool
+    requires { ⌜ Apart p ⌝ }
+    ensures { λ r. ⌜ (r ≡ true → (k : ℕ) → k < 8 → (bs : List Bool) → sort (whose t) (rowBy p (o + k + 1)) bs ≡ sort (whose t) (rowBy p (o + 1)) bs) ⌝ }
+{
+    match t {
+        Stream::Voice => true,
+        Stream::Lsd => frame::uncut(p, o),
+    }
+}
+
+// The number that the runs of eight octets spell, one after the other.
+fn gathered(line: &[u8], o: usize, run: Run) -> usize
+    requires { ⌜ (run .start + run .bits ≤ 8) × (o + 8 ≤ length (now line)) ⌝ }
+    ensures { λ r. ⌜ r ≡ number (runs (run .start) (run .bits) (now (line .entry)) o 8) ⌝ }
+{
+    let bits = run.bits;
+    let mut x = 0;
+    for k in 0..8 {
+        x = (x << bits) + taken(run, line[o + k]);
+    }
+    x
+}
+
+// n octets more, eight at most, as the number x: where nothing waits they are written as they are, the highest first.
+// The loop has a fixed length, so that it is compiled without one.
+fn put_octets(out: &mut [u8], q: Queue, n: usize, x: usize) -> Queue
+    requires { ⌜ (q .held ≡ 0) × (n ≤ 8) × (q .at + n ≤ length (now out)) ⌝ }
+    ensures { λ r. ⌜ ((bs xs : List Bool) (was : List ℕ) → Packed bs was (now (out .entry)) q → length xs ≡ 8 * n → number xs ≡ x → Packed (bs ++ xs) was (now (out .exit)) r) ⌝ }
+{
+    let at = q.at;
+    for j in 0..8 {
+        if j < n {
+            out[at + j] = ((x >> (8 * (n - 1 - j))) % 256) as u8;
+        }
+    }
+    Queue {
+        at: at + n,
+        held: 0,
+        waiting: 0,
+    }
+}
+
+// Eight octets of a block, one by one: their runs may differ, and bits may wait.
+fn push_eight(line: &[u8], p: Layout, t: Stream, o: usize, out: &mut [u8], from: Queue) -> Queue
+    requires { ⌜ Ready p t (now line) o (now out) from ⌝ }
+    ensures { λ r. ⌜ ((was : List ℕ) → Packed (sofar p (whose t) (now (line .entry)) o) was (now (out .entry)) from → Packed (sofar p (whose t) (now (line .entry)) (o + 8)) was (now (out .exit)) r) ⌝ }
+{
+    let mut q = from;
+    for k in 0..8 {
+        let run = run_of(p, t, (o + k) % 80);
+        let n = run.bits;
+        q = push(out, q, n, taken(run, line[o + k]));
+    }
+    q
+}
+
+// Eight octets of a block, together where it can be: eight runs of n bits are n octets, and where nothing waits they need no queue.
+fn sort_eight(line: &[u8], p: Layout, t: Stream, o: usize, out: &mut [u8], q: Queue) -> Queue
+    requires { ⌜ o % 8 ≡ 0 ⌝ }
+    requires { ⌜ Ready p t (now line) o (now out) q ⌝ }
+    ensures { λ r. ⌜ ((was : List ℕ) → Packed (sofar p (whose t) (now (line .entry)) o) was (now (out .entry)) q → Packed (sofar p (whose t) (now (line .entry)) (o + 8)) was (now (out .exit)) r) ⌝ }
+{
+    if alike(p, t, o % 80) {
+        let run = run_of(p, t, o % 80);
+        let n = run.bits;
+        if n == 0 {
+            return q;
+        }
+        if q.held == 0 {
+            return put_octets(out, q, n, gathered(line, o, run));
+        }
+    }
+    push_eight(line, p, t, o, out, q)
+}
+
 // A stream's bits out of a block, packed from the front of a buffer that has room for them, and zeros after them.
 fn sort_stream(line: &[u8], p: Layout, t: Stream, out: &mut [u8])
     requires { ⌜ Apart p ⌝ }
@@ -137,10 +213,8 @@ fn sort_stream(line: &[u8], p: Layout, t: Stream, out: &mut [u8])
     };
     let mut o = 0;
     while o < 160 {
-        let run = run_of(p, t, o % 80);
-        let n = run.bits;
-        q = push(out, q, n, taken(run, line[o]));
-        o += 1;
+        q = sort_eight(line, p, t, o, out, q);
+        o += 8;
     }
     finish(out, q);
 }

@@ -3,21 +3,21 @@ use borrow.Author.Needs.{needs}
 use native.Mathlib.Omega.{arith}
 use mathlib.Core.Path.{_≡_, refl, sym, _∙_, ap, subst}
 use mathlib.Core.List.{List}
-use Prim.Native.Nat.{ℕ, _-_, _≤_}
+use Prim.Native.Nat.{ℕ, _-_, _%_, _≤_}
 use denote.Ref.{now}
 use lib.Dec.{lit<}
-use lib.ListN.{length, getD, take, drop, replicate}
-use Rattle.bits.specs.Bits.{octetBits, octets, bitsOf, number}
+use lib.ListN.{length, replicate}
+use Rattle.bits.specs.Bits.{octets, bitsOf, number}
 use Rattle.modes.specs.declared.Owner.{Owner}
 use Rattle.frame.specs.Streams.{sort}
-use Rattle.sorter.specs.Packed.{Packed, whose}
-use Rattle.sorter.proofs.SortLaws.{sofar, sofar-more, length-sofar, length-run, run-lt, roomy, count-le, block-all}
-use Rattle.sorter.proofs.QueueLaws.{packed-lt}
+use Rattle.sorter.specs.Packed.{Packed, whose, sofar}
+use Rattle.sorter.proofs.SortLaws.{length-sofar, count-le, block-all}
+use Rattle.sorter.proofs.QueueLaws.{packed-lt, packed-self}
 use Rattle.sorter.proofs.sort_stream.Statement.{statement}
 use Rattle.sorter.proofs.sort_stream.Tie as tie
 
 abbrev Inv-loop : tie.InvT-loop
-Inv-loop line p t out₀ q₀ o₀ out q o = (o ≤ 160) × Packed (sofar p (whose t) line o) out₀ out q
+Inv-loop line p t out₀ q₀ o₀ out q o = (o ≤ 160) × (o % 8 ≡ 0) × Packed (sofar p (whose t) line o) out₀ out q
 
 abbrev μ-loop : tie.MeasureT-loop
 μ-loop line p t out₀ q₀ o₀ out q o = 160 - o
@@ -27,32 +27,22 @@ clear-requires c κs = search needs
 
 loop-holds : tie.Need-loop-holds Inv-loop μ-loop
 unfolding octets sort number
-loop-holds c = (search needs, record { room = refl; left = lit< tt; ends = refl; rest = refl; done = refl })
+loop-holds c = (search needs, refl, record { room = refl; left = lit< tt; ends = refl; rest = refl; done = refl })
 
-run-of-requires : tie.Need-run-of-requires Inv-loop μ-loop
-run-of-requires c κs = search needs
-
-shared-slice-read-taken : tie.Need-shared-slice-read-taken Inv-loop μ-loop
-shared-slice-read-taken c = search needs
-
-taken-requires : tie.Need-taken-requires Inv-loop μ-loop
-taken-requires c κs = c .before .before .run-of .ensures .0
-
-push-requires : tie.Need-push-requires Inv-loop μ-loop
-push-requires c κs =
-    let l = c .before .before .before .before .before .loop in
-    let s = c .before .before .before .before .before .before .before .before .before .before .before .before in
-    let kept = c .before .before .before .before .before .before .before .before .clear .kept .0 in
-    let r = c .before .before .before .run-of in
-    let line = now (s .args .line) in
-    let inv = l .inv .1 in
-    let room =
-    roomy (s .args .p) (whose (s .args .t)) line (l .o) (r .result .start) (r .result .bits) (s .pre .0 .within) (r .ensures .0) (omega arith) (s .pre .1 .0) (r .ensures .1) in (
-      inv .left,
-      packed-lt _ _ _ (l .q) inv,
-      omega (arith, r .ensures .0),
-      rw (c .taken .ensures) (run-lt (r .result .start) (r .result .bits) _ (r .ensures .0)),
-      omega (arith, room, inv .ends, inv .room, kept, s .pre .1 .1),
+sort-eight-requires : tie.Need-sort-eight-requires Inv-loop μ-loop
+sort-eight-requires c κs =
+    let l = c .before .before .loop in
+    let s = c .before .before .before .before .before .before .before .before .before in
+    let kept = c .before .before .before .before .before .clear .kept .0 in
+    let inv = l .inv .2 in (
+      l .inv .1,
+      record {
+        apart = s .pre .0;
+        whole = s .pre .1 .0;
+        more = omega arith;
+        space = rw (inv .room, kept) (s .pre .1 .1);
+        packed = packed-self _ _ _ (l .q) inv;
+      },
     )
 
 add-o : tie.Need-add-o Inv-loop μ-loop
@@ -63,27 +53,16 @@ loop-less c = search needs
 
 loop-again : tie.Need-loop-again Inv-loop μ-loop
 loop-again c =
-    let l = c .before .before .before .before .before .before .before .before .loop in
-    let s = c .before .before .before .before .before .before .before .before .before .before .before .before .before .before .before in
-    let was = c .before .before .before .before .before .before .before .before .before .before .before .clear .last .0 in
-    let r = c .before .before .before .before .before .before .run-of in
-    let line = now (s .args .line) in
-    let w = whose (s .args .t) in
-    let from = r .result .start in
-    let n = r .result .bits in
-    let x = getD line (l .o) 0 in
-    let xs = take n (drop from (octetBits x)) in (
-      omega arith,
-      rw (sofar-more (s .args .p) w line (l .o) from n (s .pre .0 .within) (r .ensures .0) (omega arith) (r .ensures .1))
-          (c .before .before .push .ensures (sofar (s .args .p) w line (l .o)) xs was (l .inv .1) (length-run from n x (r .ensures .0)) (sym (c .before .before .before .taken .ensures))),
-    )
+    let l = c .before .before .before .before .before .loop in
+    let was = c .before .before .before .before .before .before .before .before .clear .last .0 in
+    (omega arith, omega arith, c .before .before .sort-eight .ensures was (l .inv .2))
 
 finish-requires : tie.Need-finish-requires Inv-loop μ-loop
 finish-requires c κs =
     let l = c .before .before .loop in
     let s = c .before .before .before .before .before .before .before .before .before in
     let kept = c .before .before .before .before .before .clear .kept .0 in
-    let inv = l .inv .1 in
+    let inv = l .inv .2 in
     let line = now (s .args .line) in
     let w = whose (s .args .t) in
     let length-out = length-sofar (s .args .p) w line (l .o) (s .pre .0 .within) (omega arith) in (
@@ -104,10 +83,10 @@ returns c =
     let w = whose (s .args .t) in
     let size = length (now (s .args .out)) in
     let bs = sofar (s .args .p) w line (l .o) in
-    let m : length (l .out) ≡ size = l .inv .1 .room ∙ cl .kept .0 in
+    let m : length (l .out) ≡ size = l .inv .2 .room ∙ cl .kept .0 in
     let blank : cl .last .0 ≡ replicate (length (l .out)) 0 = cl .ensures ∙ ap (λ (n : ℕ). replicate n 0) (sym m) in
     let e : l .o ≡ 160 = omega arith in
-    c .before .before .finish .ensures bs (subst (λ (was : List ℕ). Packed bs was (l .out) (l .q)) blank (l .inv .1))
+    c .before .before .finish .ensures bs (subst (λ (was : List ℕ). Packed bs was (l .out) (l .q)) blank (l .inv .2))
     ∙ ap (λ (n : ℕ). octets n bs) m
     ∙ ap (λ (n : ℕ). octets size (sofar (s .args .p) w line n)) e
     ∙ ap (λ (ps : List Owner). octets size (sort w ps (bitsOf line))) (block-all (s .args .p))
@@ -120,10 +99,7 @@ sort-stream-spec =
     μ-loop
     clear-requires
     loop-holds
-    run-of-requires
-    shared-slice-read-taken
-    taken-requires
-    push-requires
+    sort-eight-requires
     add-o
     loop-less
     loop-again
