@@ -9,9 +9,11 @@ use lib.Dec.{eqb, leb}
 use borrow.Author.Tests.{leb-true, leb-false, eqb-true, le-leb, ne-eqb}
 use Rattle.bits.specs.Bits.{digit}
 use Rattle.bits.proofs.Every.{and-left, and-right, and-make}
-use Rattle.modes.specs.Owners.{within, holds, some, count, clash, bitsPerFrame}
+use Rattle.modes.specs.Table.{audioPlaces, lsdPlaces}
+use Rattle.modes.specs.Owners.{within, holds, heldBy, some, count, clash, overlaps, bitsPerFrame}
+use Rattle.modes.specs.declared.Mode.{Mode}
 use Rattle.modes.specs.declared.Places.{Places}
-use Rattle.modes.proofs.TableLaws.{Fit}
+use Rattle.modes.proofs.TableLaws.{Fit, audio-fit, lsd-fit}
 
 -- ---- some number of 1 to n
 some-at : (n : ℕ) (p : ℕ → Bool) (k : ℕ) → 1 ≤ k → k ≤ n → p k ≡ true → some n p ≡ true
@@ -131,6 +133,14 @@ module _ (p q : Places) (fp : Fit p) (fq : Fit q) where
       go true c eb ec = bits-meet eb
       go false true eb ec = channel-meets ec
       go false false eb ec = none-meets eb ec
+
+-- of a mode's streams
+pub overlaps-is : (m : Mode)
+    → overlaps m
+    ≡ (meets (audioPlaces (m .audio) .from) (audioPlaces (m .audio) .to) (lsdPlaces (m .lsd) .from) (lsdPlaces (m .lsd) .to)
+    || meets (audioPlaces (m .audio) .first) (audioPlaces (m .audio) .last) (lsdPlaces (m .lsd) .first) (lsdPlaces (m .lsd) .last))
+unfolding overlaps heldBy
+overlaps-is m = clash-is (audioPlaces (m .audio)) (lsdPlaces (m .lsd)) (audio-fit (m .audio)) (lsd-fit (m .lsd))
 
 -- ---- how many numbers of 1 to n
 pub count-ext : (n : ℕ) (f g : ℕ → ℕ) → ((k : ℕ) → k ≤ n → f k ≡ g k) → count n f ≡ count n g

@@ -1,6 +1,6 @@
 // Codes, the bit places that they hold, and modes (document 01, 'Codes and bit places', 'Slots' and 'Sending a block').
 ghost use mathlib.Core.Path.{_≡_};
-ghost use mathlib.Core.Bool.{_&&_};
+ghost use mathlib.Core.Bool.{_&&_, _||_};
 ghost use lib.Dec.{leb, eqb};
 ghost use Rattle.modes.specs.Numbers.{evenFrame, oddFrame, following};
 ghost use Rattle.modes.specs.Table.{audioPlaces, lsdPlaces};
@@ -245,13 +245,21 @@ fn meet(a: u8, b: u8, c: u8, d: u8) -> bool
     (a <= b) & (c <= d) & (a <= d) & (c <= b)
 }
 
+// Whether two streams hold a place together, in an octet or in the service channel.
+fn touch(v: Places, d: Places) -> bool
+    ensures { λ r. ⌜ r ≡ (leb (v .from) (v .to) && leb (d .from) (d .to) && leb (v .from) (d .to) && leb (d .from) (v .to)
+        || leb (v .first) (v .last) && leb (d .first) (d .last) && leb (v .first) (d .last) && leb (d .first) (v .last)) ⌝ }
+{
+    meet(v.from, v.to, d.from, d.to) | meet(v.first, v.last, d.first, d.last)
+}
+
 // Whether audio and data overlap.
 pub fn overlap(mode: Mode) -> bool
     ensures { λ r. ⌜ r ≡ overlaps mode ⌝ }
 {
     let v = audio_places(mode.audio);
     let d = lsd_places(mode.lsd);
-    meet(v.from, v.to, d.from, d.to) | meet(v.first, v.last, d.first, d.last)
+    touch(v, d)
 }
 
 // How many bits of a frame an owner holds under a mode.
@@ -270,22 +278,29 @@ pub fn in_range(mode: Mode) -> bool
 {
     let v = audio_places(mode.audio);
     let d = lsd_places(mode.lsd);
-    v.listed & (mode.audio != 0) & d.listed & !overlap(mode)
+    v.listed & (mode.audio != 0) & d.listed & !touch(v, d)
 }
 
-// Whether a code is one of the audio codes of 01's list, or of its data codes.
+// Whether a code is one of the audio codes of 01's list, or of its data codes. A table is laid out anew where it is read, so it is read only
+// for a code that it can list.
 fn is_audio(code: u8) -> bool
     ensures { λ r. ⌜ r ≡ (eqb (attribute code) audioAttribute && listedAudio (value code)) ⌝ }
 {
+    if code / 32 != 0 {
+        return false;
+    }
     let p = audio_places(code % 32);
-    (code / 32 == 0) & p.listed
+    p.listed
 }
 
 fn is_lsd(code: u8) -> bool
     ensures { λ r. ⌜ r ≡ (eqb (attribute code) lsdAttribute && listedLsd (value code)) ⌝ }
 {
+    if code / 32 != 3 {
+        return false;
+    }
     let p = lsd_places(code % 32);
-    (code / 32 == 3) & p.listed
+    p.listed
 }
 
 // Whether a code is carried when plain.

@@ -178,12 +178,16 @@ fn clash(s: Sender, code: u8) -> bool
     let chosen = s.chosen;
     let lsd = s.mode.lsd;
     let v = code % 32;
-    let spoken = modes::overlap(Mode { audio: v, lsd: lsd });
-    let given = modes::overlap(Mode {
-        audio: chosen,
-        lsd: v,
-    });
-    ((code / 32 == 0) & spoken) | ((code / 32 == 3) & given)
+    if code / 32 == 0 {
+        return modes::overlap(Mode { audio: v, lsd: lsd });
+    }
+    if code / 32 == 3 {
+        return modes::overlap(Mode {
+            audio: chosen,
+            lsd: v,
+        });
+    }
+    false
 }
 
 // The first of eight rows that is given.
