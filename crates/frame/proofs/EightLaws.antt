@@ -4,7 +4,7 @@ use mathlib.Core.Logic.{_⊎_, inl, inr}
 use mathlib.Core.Bool.{Bool, true, false, cond, _&&_}
 use mathlib.Core.List.{List, [], _++_}
 use Prim.Native.Nat.{ℕ, suc, _+_, _-_, _*_, _/_, _%_, _^_, _≤_, _<_}
-use native.Mathlib.Nat.{zero-add, add-zero, add-mul, mul-add, mul-one, one-mul, pow-suc, mul-le-mul, mul-assoc, lt-of-lt-of-le, mod-lt}
+use native.Mathlib.Nat.{add-mul, mul-add, mul-one, one-mul, pow-suc, mul-le-mul, mul-assoc, lt-of-lt-of-le, mod-lt}
 use native.Mathlib.Numerals.{add-one}
 use native.Mathlib.Omega.{arith}
 use lib.Arith.{digits-lt, lt-one}
@@ -24,7 +24,7 @@ use Rattle.modes.specs.declared.Owner.the-variants.{Service, Lsd, Nobody}
 use Rattle.frame.specs.Streams.{fill, rest, nexts}
 use Rattle.frame.specs.Block.{streams}
 use Rattle.frame.specs.Layout.{channelBy, rowBy, rowsBy, uncutAt, sc, Apart, frameBy}
-use Rattle.frame.specs.Eight.{fieldOf, tailOf, octetOf, eightOf, owns, dataBits, eightAt}
+use Rattle.frame.specs.Eight.{fieldOf, tailOf, octetOf, eightOf, owns, dataBits, eightAt, Fits}
 use Rattle.frame.specs.declared.Layout.{Layout}
 use Rattle.frame.specs.declared.Eight.{Eight}
 use Rattle.frame.proofs.StreamLaws.{length-nexts, nexts-take, nexts-append}
@@ -198,15 +198,9 @@ octet-is p o k bs vs ds a u h hl =
     rw (field-nexts w k (drop (o * w) vs) h, drop-drop (k * w) (o * w) vs, ← add-mul o k w, tail-is p o k bs (drop (o * w) vs) ds a u h hl)
     (sym (octet-parts p (o + k) bs vs ds a))
 
--- where data has no bit of them
-field-none : (x k : ℕ) → fieldOf x 0 k ≡ 0
+-- fields of no bits
+pub field-none : (x k : ℕ) → fieldOf x 0 k ≡ 0
 field-none x k = lt-one (field-lt x 0 k)
-
-pub plain-is : (p : Layout) (e : Eight) (k : ℕ) → p .columns ≡ 0 → e .owned ≡ false
-    → octetOf p e k
-    ≡ (fieldOf (e .voice) (p .width) k * 2 ^ (7 - p .width) + (2 ^ (7 - p .width) - 1)) * 2 ^ 1 + fieldOf (e .channel) 1 k
-unfolding octetOf tailOf
-plain-is p e k hc ho = rw (hc, ho, add-zero (p .width), field-none (e .lsd) k, zero-add)
 
 pub eight-lt : (p : Layout) (e : Eight) (k : ℕ) → p .width + p .columns ≤ 7 → octetOf p e k < 256
 unfolding octetOf
@@ -266,6 +260,14 @@ eight-from p o i j v d bs vs ds a u h hl ei ej =
     lsd (inl z) = rw z
     lsd (inr e) = let f : 8 * j ≡ d + at = e ∙ omega arith in rw (f, ← drop-drop at d ds)
 
+-- the numbers of eight octets have as many bits as they ought to
+pub eight-fits : (p : Layout) (o : ℕ) (bs vs ds : List Bool) → Fits p (eightAt p o bs vs ds)
+unfolding eightAt
+eight-fits p o bs vs ds = record { voiced = below (8 * p .width) vs; given = below (8 * dataBits (p .columns) (owns p o)) ds; served = below 8 bs }
+  where
+    below : (n : ℕ) (l : List Bool) → number (nexts n l) < 2 ^ n
+    below n l = rw length-nexts at (number-bound (nexts n l))
+
 -- ---- where the eight begin in the buffers, and that these hold them
 pub in-octets : (v o w : ℕ) → v % 8 ≡ 0 → o % 8 ≡ 0 → 8 * ((v + o * w) / 8) ≡ v + o * w
 in-octets v o w hv ho =
@@ -281,11 +283,6 @@ pub data-le : (c : ℕ) (b : Bool) → c ≤ 7 → dataBits c b ≤ 8
 unfolding dataBits
 data-le c true h = omega arith
 data-le c false h = omega arith
-
-pub no-data : (c : ℕ) (b : Bool) → dataBits c b ≡ 0 → (c ≡ 0) × (b ≡ false)
-unfolding dataBits
-no-data c true h = absurd (omega arith)
-no-data c false h = (h, refl)
 
 pub data-through : (p : Layout) (o : ℕ) → Apart p → uncutAt p o ≡ true → o + 8 ≤ 80
     → o * p .columns + sc p o + 8 * dataBits (p .columns) (owns p o) ≤ 624

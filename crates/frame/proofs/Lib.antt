@@ -4,6 +4,8 @@ pub mod ChannelLaws
 pub mod EightLaws
 pub mod LayoutLaws
 pub mod OctetLaws
+pub mod SpreadLaws
 pub mod StreamLaws
+pub mod WordLaws
 pub mod WrittenLaws
 pub mod HeaderLaws

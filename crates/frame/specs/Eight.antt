@@ -2,7 +2,8 @@
 -- contract speaks of it; proofs/EightLaws shows that the octets are those of the frame.
 use mathlib.Core.Bool.{Bool, cond, _&&_}
 use mathlib.Core.List.{List, [], _∷_}
-use Prim.Native.Nat.{ℕ, _+_, _-_, _*_, _/_, _%_, _^_}
+use Prim.Native.Nat.{ℕ, _+_, _-_, _*_, _/_, _%_, _^_, _<_}
+use lib.Bits.{bitAnd}
 use lib.Dec.{leb}
 use Rattle.bits.specs.Bits.{number}
 use Rattle.frame.specs.Streams.{nexts}
@@ -12,6 +13,14 @@ use Rattle.frame.specs.declared.Eight.{Eight}
 -- field k of a number's eight, the highest first and counted from 0, each of so many bits
 unfoldable pub fieldOf : ℕ → ℕ → ℕ → ℕ
 fieldOf x bits k = x / 2 ^ ((7 - k) * bits) % 2 ^ bits
+
+-- eight octets as one number, the first highest
+unfoldable pub eights : (ℕ → ℕ) → ℕ
+eights f = ((((((f 0 * 256 + f 1) * 256 + f 2) * 256 + f 3) * 256 + f 4) * 256 + f 5) * 256 + f 6) * 256 + f 7
+
+-- what a mask covers stays, and the rest moves up by so many bits
+unfoldable pub partedBy : ℕ → ℕ → ℕ → ℕ
+partedBy x mask up = (x - bitAnd x mask) * 2 ^ up + bitAnd x mask
 
 -- the last bits of octet k, c of data's columns and the SC bit
 unfoldable pub tailOf : ℕ → Eight → ℕ → ℕ
@@ -43,3 +52,9 @@ eightAt p o service voice lsd =
       channel = number (nexts 8 service);
       owned = owns p o;
     }
+
+-- the three numbers have no more bits than eight octets have of them
+pub record Fits (p : Layout) (e : Eight) : Type 0 where
+  pub voiced : e .voice < 2 ^ (8 * p .width)
+  pub given : e .lsd < 2 ^ (8 * dataBits (p .columns) (e .owned))
+  pub served : e .channel < 256

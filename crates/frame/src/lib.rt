@@ -11,7 +11,7 @@ ghost use Rattle.frame.specs.Service.{serviceRows};
 ghost use Rattle.frame.specs.Block.{serviceBits, heard, streams, fitting, lineAfter};
 ghost use Rattle.bas.specs.Reading.{weight};
 ghost use Rattle.frame.specs.Channel.{channelBits, wrongBits, oddFirst, cBits, basWord};
-ghost use Rattle.frame.specs.Eight.{fieldOf, tailOf, octetOf, eightOf, owns, dataBits, eightAt};
+ghost use Rattle.frame.specs.Eight.{partedBy, eights, fieldOf, tailOf, octetOf, eightOf, owns, dataBits, eightAt, Fits};
 ghost use Rattle.frame.specs.Layout.{layoutOf, channelBy, rowBy, rowsBy, uncutAt, sc, Ready, frameSources, frameBy};
 use modes::BlockNumber;
 use modes::Mode;
@@ -323,77 +323,61 @@ fn eight_of(
     }
 }
 
-// Field k of a number's eight, each of so many bits.
-fn field(x: usize, bits: usize, k: usize) -> usize
-    requires { ⌜ (bits ≤ 8) × (k < 8) ⌝ }
-    ensures { λ r. ⌜ r ≡ fieldOf x bits k ⌝ }
+// A number's lanes parted in two: what the mask covers stays, and the rest moves up.
+fn parted(x: usize, mask: usize, up: usize) -> usize
+    requires { ⌜ (up < 64) × (partedBy x mask up < 2 ^ 64) ⌝ }
+    ensures { λ r. ⌜ r ≡ partedBy x mask up ⌝ }
 {
-    (x >> ((7 - k) * bits)) % (1 << bits)
+    let low = x & mask;
+    ((x - low) << up) + low
 }
 
-// The last bits of octet k of the eight: data's and the SC bit.
-fn tail(e: Eight, c: usize, k: usize) -> usize
-    requires { ⌜ (c ≤ 7) × (k < 8) ⌝ }
-    ensures { λ r. ⌜ r ≡ tailOf c e k ⌝ }
+// The eight fields of a number, each of n bits, as the low bits of eight octets. Three steps do it, for all fields at once: the number is
+// parted in two, each half in two, and each of those.
+fn spread(x: usize, n: usize) -> usize
+    requires { ⌜ (n ≤ 8) × (x < 2 ^ (8 * n)) ⌝ }
+    ensures { λ r. ⌜ r ≡ eights (fieldOf x n) ⌝ }
+{
+    let two = parted(x, (1 << (4 * n)) - 1, 32 - 4 * n);
+    let four = parted(two, ((1 << (2 * n)) - 1) * 0x1_0000_0001, 16 - 2 * n);
+    parted(four, ((1 << n) - 1) * 0x1_0001_0001_0001, 8 - n)
+}
+
+// The last bits of the eight octets, data's and the SC bit. Where data has none, as in every block of voice alone, the SC bits are all.
+fn tails(c: usize, e: Eight) -> usize
+    requires { ⌜ (c ≤ 7) × (e .lsd < 2 ^ (8 * dataBits c (e .owned))) × (e .channel < 256) ⌝ }
+    ensures { λ r. ⌜ r ≡ eights (tailOf c e) ⌝ }
 {
     if e.owned {
-        return field(e.lsd, c + 1, k);
+        return spread(e.lsd, c + 1);
     }
-    field(e.lsd, c, k) * 2 + field(e.channel, 1, k)
+    let channel = spread(e.channel, 1);
+    if c == 0 {
+        return channel;
+    }
+    spread(e.lsd, c) * 2 + channel
 }
 
-// Octet k of the eight.
-fn octet_in(p: Layout, e: Eight, k: usize) -> u8
-    requires { ⌜ (p .width + p .columns ≤ 7) × (k < 8) ⌝ }
-    ensures { λ r. ⌜ r ≡ octetOf p e k ⌝ }
+// The eight octets as one number: their voice, nobody's ones in each, and their last bits.
+fn word_of(p: Layout, e: Eight) -> usize
+    requires { ⌜ (p .width + p .columns ≤ 7) × Fits p e ⌝ }
+    ensures { λ r. ⌜ r ≡ eights (octetOf p e) ⌝ }
 {
     let w = p.width as usize;
     let c = p.columns as usize;
-    let high = field(e.voice, w, k);
-    joined(high, 7 - (w + c), c + 1, tail(e, c, k)) as u8
+    let ones = ((1 << (7 - (w + c))) - 1) << (c + 1);
+    (spread(e.voice, w) << (8 - w)) + ones * 0x0101_0101_0101_0101 + tails(c, e)
 }
 
-// The eight octets, whatever data has of them.
-fn write_mixed(frame: &mut [u8], o: usize, p: Layout, e: Eight)
-    requires { ⌜ (length (now frame) ≡ 80) × (o + 8 ≤ 80) × (p .width + p .columns ≤ 7) ⌝ }
-    ensures { λ _. ⌜ now (frame .exit) ≡ paste (now (frame .entry)) o (eightOf p e) 8 ⌝ }
-{
-    for k in 0..8 {
-        frame[o + k] = octet_in(p, e, k);
-    }
-}
-
-// Octet k of the eight where data has no bit of them.
-fn plain_in(p: Layout, e: Eight, k: usize) -> u8
-    requires { ⌜ (p .width ≤ 7) × (p .columns ≡ 0) × (e .owned ≡ false) × (k < 8) ⌝ }
-    ensures { λ r. ⌜ r ≡ octetOf p e k ⌝ }
-{
-    let w = p.width as usize;
-    let high = field(e.voice, w, k);
-    joined(high, 7 - w, 1, field(e.channel, 1, k)) as u8
-}
-
-// The eight octets, of voice and SC bits alone.
-fn write_plain(frame: &mut [u8], o: usize, p: Layout, e: Eight)
-    requires { ⌜ (length (now frame) ≡ 80) × (o + 8 ≤ 80) ⌝ }
-    requires { ⌜ (p .width ≤ 7) × (p .columns ≡ 0) × (e .owned ≡ false) ⌝ }
-    ensures { λ _. ⌜ now (frame .exit) ≡ paste (now (frame .entry)) o (eightOf p e) 8 ⌝ }
-{
-    for k in 0..8 {
-        frame[o + k] = plain_in(p, e, k);
-    }
-}
-
-// The eight octets, written from octet o + 1 on. Where data has no bit of them, as in every block of voice alone, a shorter loop does.
+// The eight octets, written from octet o + 1 on.
 fn write_eight(frame: &mut [u8], o: usize, p: Layout, e: Eight)
-    requires { ⌜ (length (now frame) ≡ 80) × (o + 8 ≤ 80) × (p .width + p .columns ≤ 7) ⌝ }
+    requires { ⌜ (length (now frame) ≡ 80) × (o + 8 ≤ 80) × (p .width + p .columns ≤ 7) × Fits p e ⌝ }
     ensures { λ _. ⌜ now (frame .exit) ≡ paste (now (frame .entry)) o (eightOf p e) 8 ⌝ }
 {
-    if data_bits(p.columns as usize, e.owned) == 0 {
-        write_plain(frame, o, p, e);
-        return;
+    let word = word_of(p, e);
+    for k in 0..8 {
+        frame[o + k] = ((word >> (8 * (7 - k))) % 256) as u8;
     }
-    write_mixed(frame, o, p, e);
 }
 
 // Octets o + 1 to o + 8 of a frame: together where data's SC octets do not cut them, and their data, if any, begins with an octet of its

@@ -5,6 +5,7 @@ use native.Mathlib.Nat.{add-mul, mul-assoc}
 use native.Mathlib.Omega.{arith}
 use lib.Pow.{pow-add, pow-pos, pow-mono, shl-exact, shl-lt, ones-lt}
 use Rattle.bits.proofs.ShiftLaws.{one-shl}
+use Rattle.frame.proofs.WordLaws.{ones-shl}
 use borrow.Author.Needs.{needs}
 use Rattle.frame.proofs.joined.Statement.{statement}
 use Rattle.frame.proofs.joined.Tie as tie
@@ -19,9 +20,6 @@ high-lt v g t hv hg ht =
     omega (arith, m, shl-lt {a = v} 8 (g + t) hv)
 
 -- nobody's ones, moved over the tail
-middle : (g t : ℕ) → g ≤ 7 → t ≤ 8 → (1 * 2 ^ g % 2 ^ 64 - 1) * 2 ^ t % 2 ^ 64 ≡ (2 ^ g - 1) * 2 ^ t
-middle g t hg ht = rw (one-shl g (omega arith)) (shl-exact {a = 2 ^ g - 1} g t 64 (ones-lt g) (omega arith))
-
 middle-lt : (g t : ℕ) → g ≤ 7 → t ≤ 8 → (2 ^ g - 1) * 2 ^ t < 2 ^ 24
 middle-lt g t hg ht =
     let m : 2 ^ (g + t) ≤ 2 ^ 24 = pow-mono {j = 24} (omega arith) in
@@ -45,19 +43,19 @@ shl-result-3 c = search needs
 add-result-2 : tie.Need-add-result-2
 add-result-2 c =
     let a = c .args in
-    rw (high (a .voice) (a .g) (a .t) (omega arith) (omega arith) (omega arith), middle (a .g) (a .t) (omega arith) (omega arith))
+    rw (high (a .voice) (a .g) (a .t) (omega arith) (omega arith) (omega arith), ones-shl (a .g) (a .t) (omega arith) (omega arith))
     (omega (arith, high-lt (a .voice) (a .g) (a .t) (omega arith) (omega arith) (omega arith), middle-lt (a .g) (a .t) (omega arith) (omega arith)))
 
 add-result-3 : tie.Need-add-result-3
 add-result-3 c =
     let a = c .args in
-    rw (high (a .voice) (a .g) (a .t) (omega arith) (omega arith) (omega arith), middle (a .g) (a .t) (omega arith) (omega arith))
+    rw (high (a .voice) (a .g) (a .t) (omega arith) (omega arith) (omega arith), ones-shl (a .g) (a .t) (omega arith) (omega arith))
     (omega (arith, high-lt (a .voice) (a .g) (a .t) (omega arith) (omega arith) (omega arith), middle-lt (a .g) (a .t) (omega arith) (omega arith)))
 
 returns : tie.Need-returns
 returns c =
     let a = c .args in
-    rw (high (a .voice) (a .g) (a .t) (omega arith) (omega arith) (omega arith), middle (a .g) (a .t) (omega arith) (omega arith), pow-add 2 (a .g) (a .t), ← mul-assoc (a .voice) (2 ^ a .g) (2 ^ a .t), add-mul (a .voice * 2 ^ a .g) (2 ^ a .g - 1) (2 ^ a .t))
+    rw (high (a .voice) (a .g) (a .t) (omega arith) (omega arith) (omega arith), ones-shl (a .g) (a .t) (omega arith) (omega arith), pow-add 2 (a .g) (a .t), ← mul-assoc (a .voice) (2 ^ a .g) (2 ^ a .t), add-mul (a .voice * 2 ^ a .g) (2 ^ a .g - 1) (2 ^ a .t))
 
 pub joined-spec : {M : Type 1} → statement M
 joined-spec =

@@ -1,49 +1,97 @@
--- `frame::write_eight` meets its contract: both loops write the same octets.
-use mathlib.Core.Path.{_≡_, sym, _∙_}
+-- `frame::write_eight` meets its contract: the loop's invariant: the first k octets of the number are written.
+use mathlib.Core.Path.{_≡_, sym, ap, _∙_}
+use mathlib.Core.List.{List}
+use Prim.Native.Nat.{ℕ, _+_, _-_, _≤_}
 use native.Mathlib.Omega.{arith}
-use Rattle.frame.proofs.EightLaws.{no-data}
+use denote.Ref.{now}
+use lib.ListN.{length, set, length-set}
+use lib.Seq.{paste, paste-zero}
+use Rattle.bits.proofs.Table.{entry}
+use Rattle.frame.proofs.WordLaws.{octetIn, octetsIn, octets-in}
+use Rattle.frame.proofs.WrittenLaws.{one-over}
 use borrow.Author.Needs.{needs}
 use Rattle.frame.proofs.write_eight.Statement.{statement}
 use Rattle.frame.proofs.write_eight.Tie as tie
 
-cast-data-bits : tie.Need-cast-data-bits
-cast-data-bits c = search needs
+abbrev Inv-loop : tie.InvT-loop
+Inv-loop frame₀ o word k₀ frame k = (k ≤ 8) × (length frame ≡ length frame₀) × (frame ≡ paste frame₀ o (octetsIn word) k)
 
-data-bits-requires : tie.Need-data-bits-requires
-data-bits-requires c κs = search needs
+abbrev μ-loop : tie.MeasureT-loop
+μ-loop frame₀ o word k₀ frame k = 8 - k
 
-write-plain-requires : tie.Need-write-plain-requires
-write-plain-requires c κs =
-    let s = c .before .before .before .before .before in
-    let call = c .before .before .data-bits in
-    let none : call .result ≡ 0 = omega arith in
-    let free = no-data (s .args .p .columns) (s .args .e .owned) (sym (call .ensures) ∙ none) in
-    ((search needs, search needs), (omega arith, free .0, free .1))
+word-of-requires : tie.Need-word-of-requires Inv-loop μ-loop
+word-of-requires c κs = search needs
 
-same-length : tie.Need-same-length
+loop-holds : tie.Need-loop-holds Inv-loop μ-loop
+loop-holds c =
+    let a = c .before .before .args in
+    (search needs, search needs, paste-zero (a .frame .now) (a .o) (octetsIn (c .word-of .result)))
+
+sub-frame : tie.Need-sub-frame Inv-loop μ-loop
+sub-frame c = search needs
+
+mul-frame : tie.Need-mul-frame Inv-loop μ-loop
+mul-frame c = search needs
+
+shr-frame : tie.Need-shr-frame Inv-loop μ-loop
+shr-frame c = search needs
+
+cast-frame : tie.Need-cast-frame Inv-loop μ-loop
+cast-frame c = search needs
+
+add-frame : tie.Need-add-frame Inv-loop μ-loop
+add-frame c = search needs
+
+slice-write-frame : tie.Need-slice-write-frame Inv-loop μ-loop
+slice-write-frame c = search needs
+
+add-k : tie.Need-add-k Inv-loop μ-loop
+add-k c = search needs
+
+loop-less : tie.Need-loop-less Inv-loop μ-loop
+loop-less c = search needs
+
+loop-again : tie.Need-loop-again Inv-loop μ-loop
+loop-again c =
+    let a = c .before .before .before .before .args in
+    let l = c .before .loop in
+    let x = c .before .before .word-of .result in (
+      omega arith,
+      simp length-set (l .inv .1),
+      ap (λ (f : List ℕ). set f (a .o + l .k) (octetIn x (l .k))) (l .inv .2)
+          ∙ one-over (a .frame .now) (a .o) (octetsIn x) (l .k) (octetIn x (l .k)) (omega arith) (omega arith)
+          (sym (entry 8 (octetIn x) 0 (l .k) (omega arith))),
+    )
+
+same-length : tie.Need-same-length Inv-loop μ-loop
 same-length c = search needs
 
-returns : tie.Need-returns
-returns c = search needs
-
-write-mixed-requires : tie.Need-write-mixed-requires
-write-mixed-requires c κs = search needs
-
-same-length-2 : tie.Need-same-length-2
-same-length-2 c = search needs
-
-returns-2 : tie.Need-returns-2
-returns-2 c = search needs
+returns : tie.Need-returns Inv-loop μ-loop
+returns c =
+    let s = c .before .before .before .before in
+    let a = s .args in
+    let l = c .before .loop in
+    let e : l .k ≡ 8 = omega arith in
+    l .inv .2
+    ∙ ap (paste (now (a .frame)) (a .o) (octetsIn (c .before .before .word-of .result))) e
+    ∙ ap (λ (es : List ℕ). paste (now (a .frame)) (a .o) es 8) (ap octetsIn (c .before .before .word-of .ensures) ∙ octets-in (a .p) (a .e) (omega arith))
 
 pub write-eight-spec : {M : Type 1} → statement M
 write-eight-spec =
     tie.close
     (tie.spec
-    cast-data-bits
-    data-bits-requires
-    write-plain-requires
+    Inv-loop
+    μ-loop
+    word-of-requires
+    loop-holds
+    sub-frame
+    mul-frame
+    shr-frame
+    cast-frame
+    add-frame
+    slice-write-frame
+    add-k
+    loop-less
+    loop-again
     same-length
-    returns
-    write-mixed-requires
-    same-length-2
-    returns-2)
+    returns)

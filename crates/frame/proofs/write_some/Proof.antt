@@ -17,7 +17,7 @@ use Rattle.frame.specs.Block.{heard}
 use Rattle.frame.specs.Layout.{uncutAt, sc}
 use Rattle.frame.specs.Eight.{eightOf, owns, dataBits}
 use Rattle.frame.specs.declared.Eight.{Eight}
-use Rattle.frame.proofs.EightLaws.{in-octets, through, data-through, eight-from}
+use Rattle.frame.proofs.EightLaws.{in-octets, through, data-through, eight-from, eight-fits}
 use borrow.Author.Needs.{needs}
 use Rattle.frame.proofs.write_some.Statement.{statement}
 use Rattle.frame.proofs.write_some.Tie as tie
@@ -105,7 +105,15 @@ eight-of-requires c κs =
     ((omega arith, omega arith, s .pre .0 .2), (voice, lsd))
 
 write-eight-requires : tie.Need-write-eight-requires
-write-eight-requires c κs = search needs
+write-eight-requires c κs =
+    let t = c .before .before in
+    let s = t .before .before .before .before .before .before .before .before .before .before in
+    let a = s .args in
+    let i = (a .v + a .o * a .p .width) / 8 in
+    let j = (a .d + a .o * a .p .columns + t .before .before .before .before .sc-before .result) / 8 in
+    let fits =
+    eight-fits (a .p) (a .o) (drop (a .o) (lowBits 16 (a .service))) (drop (8 * i) (heard (a .mute) (bitsOf (now (a .voice))))) (drop (8 * j) (bitsOf (now (a .lsd)))) in
+    (s .pre .0 .0, s .pre .0 .1, s .pre .1 .apart .within, rw (c .before .eight-of .ensures) fits)
 
 same-length : tie.Need-same-length
 same-length c = search needs
