@@ -2,13 +2,14 @@
 ghost use mathlib.Core.Path.{_≡_};
 ghost use mathlib.Core.Bool.{Bool, true};
 ghost use mathlib.Core.List.{List, _++_};
-ghost use Prim.Native.Nat.{ℕ, _+_, _*_, _%_, _^_, _<_, _≤_};
+ghost use Prim.Native.Nat.{ℕ, _+_, _-_, _*_, _%_, _^_, _<_, _≤_};
 ghost use lib.ListN.{length, drop, take, replicate};
 ghost use Rattle.bits.specs.Bits.{bitsOf, octetBits, octets, number};
 ghost use Rattle.frame.specs.Streams.{count, sort};
 ghost use Rattle.frame.specs.Block.{fitting};
 ghost use Rattle.frame.specs.Layout.{Apart, rowBy, rowsBy};
 ghost use Rattle.sorter.specs.Packed.{whose, sofar, runs, Packed, Ready};
+ghost use Rattle.sorter.specs.Lanes.{word, picked, units};
 ghost use Rattle.sorter.specs.Sorting.{voiceAfter, lsdAfter};
 use frame::Layout;
 use modes::Mode;
@@ -134,17 +135,56 @@ fn alike(p: Layout, t: Stream, o: usize) -> bool
     }
 }
 
-// The number that the runs of eight octets spell, one after the other.
+// An octet as a wide number; its bound is what the sum of `word_at` needs.
+fn wide(octet: u8) -> usize
+    ensures { λ r. ⌜ (r ≡ octet) × (r < 256) ⌝ }
+{
+    octet as usize
+}
+
+// Eight octets as one number, the first one highest: compiled, it is read at once.
+fn word_at(line: &[u8], o: usize) -> usize
+    requires { ⌜ o + 8 ≤ length (now line) ⌝ }
+    ensures { λ r. ⌜ r ≡ word (now (line .entry)) o 8 ⌝ }
+{
+    let mut x = 0;
+    for k in 0..8 {
+        x = x * 256 + wide(line[o + k]);
+    }
+    x
+}
+
+// n ones.
+fn ones(n: usize) -> usize
+    requires { ⌜ n < 64 ⌝ }
+    ensures { λ r. ⌜ r ≡ 2 ^ n - 1 ⌝ }
+{
+    (1 << n) - 1
+}
+
+// Each two neighbouring lanes made one, in all lanes at once: the n low bits of the higher go before those of the lower.
+// `each` has a one at the end of every lane that comes out.
+fn joined(x: usize, each: usize, lane: usize, n: usize) -> usize
+    requires { ⌜ (lane < 64) × (n ≤ lane) × ((2 ^ (n + n) - 1) * each < 2 ^ 64) ⌝ }
+    ensures { λ r. ⌜ (r ≤ (2 ^ (n + n) - 1) * each) × ((k : ℕ) → each ≡ units (lane + lane) k → picked (lane + lane) (n + n) k r ≡ picked lane n (k + k) x) ⌝ }
+{
+    let mask = ones(n) * each;
+    (((x >> lane) & mask) << n) + (x & mask)
+}
+
+// The number that the runs of eight octets spell, one after the other: they are joined to twos, to fours, and all.
 fn gathered(line: &[u8], o: usize, run: Run) -> usize
     requires { ⌜ (run .start + run .bits ≤ 8) × (o + 8 ≤ length (now line)) ⌝ }
     ensures { λ r. ⌜ r ≡ number (runs (run .start) (run .bits) (now (line .entry)) o 8) ⌝ }
 {
-    let bits = run.bits;
-    let mut x = 0;
-    for k in 0..8 {
-        x = (x << bits) + taken(run, line[o + k]);
-    }
-    x
+    let start = run.start;
+    let one = run.bits;
+    let two = one + one;
+    let four = two + two;
+    let octets = word_at(line, o) >> (8 - (start + one));
+    let twos = joined(octets, 0x0001000100010001, 8, one);
+    let fours = joined(twos, 0x0000000100000001, 16, two);
+    joined(fours, 1, 32, four)
 }
 
 // n octets more, eight at most, as the number x: where nothing waits they are written as they are, the highest first.
