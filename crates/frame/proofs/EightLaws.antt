@@ -9,7 +9,7 @@ use native.Mathlib.Numerals.{add-one}
 use native.Mathlib.Omega.{arith}
 use lib.Arith.{digits-lt, lt-one}
 use lib.Dec.{leb}
-use lib.Pow.{pow-add, pow-mono, pow-pos, ones-lt}
+use lib.Pow.{pow-add, pow-mono, pow-pos, ones-lt, high}
 use lib.ListN.{length, getD, take, drop, length-append, length-drop, drop-of-length-le}
 use lib.Seq.{length-take-le, take-all, take-at, drop-at, drop-cons, drop-drop, getD-take, getD-drop, ext-getD}
 use borrow.Author.Tests.{leb-true, leb-false, le-leb, lt-leb}
@@ -53,6 +53,16 @@ octets-more xs i j h x =
 pub octets-small : (j : ℕ) (l : List Bool) → j ≤ 7 → number (nexts (8 * j) l) < 2 ^ 56
 octets-small j l h =
     lt-of-lt-of-le (rw length-nexts at (number-bound (nexts (8 * j) l))) (pow-mono {i = 8 * j} {j = 56} (omega arith))
+
+-- of eight octets the first n
+pub octets-first : (n : ℕ) (l : List Bool) → n ≤ 8 → number (nexts 64 l) / 2 ^ (8 * (8 - n)) ≡ number (nexts (8 * n) l)
+octets-first n l h =
+    let r : ℕ = 8 * (8 - n) in
+    let rs : List Bool = nexts r (drop (8 * n) l) in
+    let parts : 64 ≡ 8 * n + r = omega arith in
+    let small : number rs < 2 ^ r = rw length-nexts at (number-bound rs) in
+    ap (λ (m : ℕ). number (nexts m l) / 2 ^ r) parts
+    ∙ rw (nexts-append (8 * n) r l, number-append (nexts (8 * n) l) rs, length-nexts r (drop (8 * n) l)) (high (number (nexts (8 * n) l)) r small)
 
 -- ---- the service bits as two octets, and ones after them
 pub service-first : (s : ℕ) → s < 65536 → number (nexts 8 (lowBits 16 s)) ≡ s / 256

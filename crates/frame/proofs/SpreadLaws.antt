@@ -98,8 +98,8 @@ pub fourOf : ℕ → ℕ → ℕ
 fourOf x n = lane 16 (2 * n) (x / 2 ^ (4 * n)) * 2 ^ 32 + lane 16 (2 * n) (x % 2 ^ (4 * n))
 
 -- the halves and the quarters are no longer than they have room
-left-lt : (x n : ℕ) → n ≤ 8 → x < 2 ^ (8 * n) → x / 2 ^ (4 * n) < 2 ^ (4 * n)
-left-lt x n hn h = let e : 8 * n ≡ 4 * n + 4 * n = omega arith in shr-lt {n = x} (4 * n) (4 * n) (rw e at h)
+left-lt : (x n : ℕ) → x < 2 ^ (8 * n) → x / 2 ^ (4 * n) < 2 ^ (4 * n)
+left-lt x n h = let e : 8 * n ≡ 4 * n + 4 * n = omega arith in shr-lt {n = x} (4 * n) (4 * n) (rw e at h)
 
 right-lt : (x n : ℕ) → x % 2 ^ (4 * n) < 2 ^ (4 * n)
 right-lt x n = mod-lt x (pow-pos (4 * n))
@@ -123,11 +123,11 @@ lane-lt y n hn h = omega (arith, upper-lt y n hn h, lower-lt y n hn)
 
 pub two-lt : (x n : ℕ) → n ≤ 8 → x < 2 ^ (8 * n) → twoOf x n < 2 ^ 64
 unfolding twoOf
-two-lt x n hn h = omega (arith, left-lt x n hn h, right-lt x n, half-le n hn)
+two-lt x n hn h = omega (arith, left-lt x n h, right-lt x n, half-le n hn)
 
 pub four-lt : (x n : ℕ) → n ≤ 8 → x < 2 ^ (8 * n) → fourOf x n < 2 ^ 64
 unfolding fourOf
-four-lt x n hn h = omega (arith, lane-lt (x / 2 ^ (4 * n)) n hn (left-lt x n hn h), lane-lt (x % 2 ^ (4 * n)) n hn (right-lt x n))
+four-lt x n hn h = omega (arith, lane-lt (x / 2 ^ (4 * n)) n hn (left-lt x n h), lane-lt (x % 2 ^ (4 * n)) n hn (right-lt x n))
 
 pub two-is : (x n : ℕ) → n ≤ 8 → partedBy x (2 ^ (4 * n) - 1) (32 - 4 * n) ≡ twoOf x n
 unfolding twoOf

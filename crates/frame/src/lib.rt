@@ -229,8 +229,8 @@ fn write_each(
     }
 }
 
-// n octets of a buffer from octet i on, eight at most, as one number.
-fn octets_at(buffer: &[u8], i: usize, n: usize) -> usize
+// n octets of a buffer from octet i on, eight at most, as one number, taken in turn.
+fn octets_in_turn(buffer: &[u8], i: usize, n: usize) -> usize
     requires { ⌜ (n ≤ 8) × (i + n ≤ length (now buffer)) ⌝ }
     ensures { λ r. ⌜ r ≡ number (nexts (8 * n) (drop (8 * i) (bitsOf (now (buffer .entry))))) ⌝ }
 {
@@ -239,6 +239,17 @@ fn octets_at(buffer: &[u8], i: usize, n: usize) -> usize
         x = x * 256 + (buffer[i + j] as usize);
     }
     x
+}
+
+// The same. Where the buffer has eight octets there they are read at once, and those past the n are let go.
+fn octets_at(buffer: &[u8], i: usize, n: usize) -> usize
+    requires { ⌜ (n ≤ 8) × (i + n ≤ length (now buffer)) ⌝ }
+    ensures { λ r. ⌜ r ≡ number (nexts (8 * n) (drop (8 * i) (bitsOf (now (buffer .entry))))) ⌝ }
+{
+    if (0 < n) & (8 <= buffer.len() - i) {
+        return octets_in_turn(buffer, i, 8) >> (8 * (8 - n));
+    }
+    octets_in_turn(buffer, i, n)
 }
 
 // n octets of voice from octet i on, seven at most, as one number: ones where voice is muted.

@@ -1,81 +1,66 @@
--- `frame::octets_at` meets its contract: the loop's invariant: the number is that of the bits passed.
-use mathlib.Core.Path.{_≡_, refl, ap, _∙_}
-use Prim.Native.Nat.{ℕ, _+_, _-_, _*_, _≤_}
+-- `frame::octets_at` meets its contract: of eight octets the shift leaves the first n.
+use mathlib.Core.Path.{_∙_, ap}
+use Prim.Native.Nat.{ℕ, _-_, _*_, _/_, _^_, _<_, _≤_}
 use native.Mathlib.Omega.{arith}
-use lib.ListN.{getD, drop}
-use Rattle.bits.specs.Bits.{bitsOf, number}
-use Rattle.frame.specs.Streams.{nexts}
-use Rattle.frame.proofs.EightLaws.{octets-more, octets-small}
+use denote.Ref.{now}
+use borrow.Author.Tests.{ltb-true, leb-true}
+use lib.Dec.{ltb, leb}
+use lib.ListN.{length, drop}
+use Rattle.bits.specs.Bits.{bitsOf}
+use Rattle.bits.proofs.Every.{and-left, and-right}
+use Rattle.frame.proofs.EightLaws.{octets-first}
 use borrow.Author.Needs.{needs}
 use Rattle.frame.proofs.octets_at.Statement.{statement}
 use Rattle.frame.proofs.octets_at.Tie as tie
 
-abbrev Inv-loop : tie.InvT-loop
-Inv-loop buffer i n x₀ j₀ x j = (j ≤ n) × (x ≡ number (nexts (8 * j) (drop (8 * i) (bitsOf buffer))))
-
-abbrev μ-loop : tie.MeasureT-loop
-μ-loop buffer i n x₀ j₀ x j = n - j
-
-loop-holds : tie.Need-loop-holds Inv-loop μ-loop
-unfolding number nexts
-loop-holds c = (search needs, refl)
-
-mul-x : tie.Need-mul-x Inv-loop μ-loop
-mul-x c =
+-- what the test says: there is an octet to take, and the buffer has eight
+some : (c : tie.Then1) → 0 < c .before .before .args .n
+some c =
     let a = c .before .before .args in
-    let l = c .before .loop in
-    omega (arith, l .inv .1, octets-small (l .j) (drop (8 * a .i) (bitsOf (a .buffer .now))) (omega arith))
+    ltb-true 0 (a .n) (and-left (ltb 0 (a .n)) (leb 8 (length (now (a .buffer)) - a .i)) (c .if1 .taken))
 
-add-x : tie.Need-add-x Inv-loop μ-loop
-add-x c = search needs
+room : (c : tie.Then1) → 8 ≤ length (now (c .before .before .args .buffer)) - c .before .before .args .i
+room c =
+    let a = c .before .before .args in
+    let r = length (now (a .buffer)) - a .i in
+    leb-true 8 r (and-right (ltb 0 (a .n)) (leb 8 r) (c .if1 .taken))
 
-shared-slice-read-x : tie.Need-shared-slice-read-x Inv-loop μ-loop
-shared-slice-read-x c = search needs
+sub-if1 : tie.Need-sub-if1
+sub-if1 c = search needs
 
-cast-x : tie.Need-cast-x Inv-loop μ-loop
-cast-x c = omega (arith, c .shared-slice-known .given (c .before .before .before .args .i + c .before .before .loop .j))
+octets-in-turn-requires : tie.Need-octets-in-turn-requires
+octets-in-turn-requires c κs = (omega arith, omega (arith, room c))
 
-add-x-2 : tie.Need-add-x-2 Inv-loop μ-loop
-add-x-2 c =
-    let a = c .before .before .before .args in
-    let l = c .before .before .loop in
-    omega (arith, l .inv .1, octets-small (l .j) (drop (8 * a .i) (bitsOf (a .buffer .now))) (omega arith), c .shared-slice-known .given (a .i + l .j))
+sub-result : tie.Need-sub-result
+sub-result c = search needs
 
-add-j : tie.Need-add-j Inv-loop μ-loop
-add-j c = search needs
+mul-result : tie.Need-mul-result
+mul-result c = search needs
 
-loop-less : tie.Need-loop-less Inv-loop μ-loop
-loop-less c = search needs
+shr-result : tie.Need-shr-result
+shr-result c = omega (arith, some (c .before))
 
-loop-again : tie.Need-loop-again Inv-loop μ-loop
-loop-again c =
-    let a = c .before .before .before .args in
-    let l = c .before .before .loop in (
-      omega arith,
-      ap (λ (y : ℕ). y * 256 + getD (a .buffer .now) (a .i + l .j) 0) (l .inv .1)
-          ∙ octets-more (a .buffer .now) (a .i) (l .j) (omega arith) (omega (arith, c .shared-slice-known .given (a .i + l .j))),
-    )
-
-returns : tie.Need-returns Inv-loop μ-loop
+returns : tie.Need-returns
 returns c =
-    let a = c .before .before .args in
-    let l = c .before .loop in
-    let e : l .j ≡ a .n = omega arith in
-    l .inv .1 ∙ ap (λ (k : ℕ). number (nexts (8 * k) (drop (8 * a .i) (bitsOf (a .buffer .now))))) e
+    let a = c .before .before .before .args in
+    ap (λ (x : ℕ). x / 2 ^ (8 * (8 - a .n))) (c .octets-in-turn .ensures)
+    ∙ octets-first (a .n) (drop (8 * a .i) (bitsOf (now (a .buffer)))) (omega arith)
+
+octets-in-turn-requires-2 : tie.Need-octets-in-turn-requires-2
+octets-in-turn-requires-2 c κs = search needs
+
+returns-2 : tie.Need-returns-2
+returns-2 c = search needs
 
 pub octets-at-spec : {M : Type 1} → statement M
 octets-at-spec =
     tie.close
     (tie.spec
-    Inv-loop
-    μ-loop
-    loop-holds
-    mul-x
-    add-x
-    shared-slice-read-x
-    cast-x
-    add-x-2
-    add-j
-    loop-less
-    loop-again
-    returns)
+    sub-if1
+    octets-in-turn-requires
+    sub-result
+    mul-result
+    shr-result
+    returns
+    octets-in-turn-requires-2
+    returns-2)
