@@ -1,15 +1,15 @@
 -- Laws of lanes: & with ones at the low bits of each lane, and each two neighbours made one lane, in all lanes at once.
-use mathlib.Core.Path.{_≡_, refl, sym, ap, ap₂, subst, _∙_}
+use mathlib.Core.Path.{_≡_, refl, sym, ap, ap₂, _∙_}
 use mathlib.Core.List.{List}
 use Prim.Native.Nat.{ℕ, zero, suc, _+_, _-_, _*_, _/_, _%_, _^_, _≤_, _<_}
-use native.Mathlib.Nat.{mod-lt, mod-eq-of-lt, add-le-add, mul-le-mul-right, add-mul, add-assoc, add-left-comm, add-comm, mul-assoc, mul-right-comm, mul-add, mul-one, lt-of-lt-of-le, le-trans, add-suc, suc-add, zero-mul, zero-add}
+use native.Mathlib.Nat.{mod-lt, mod-eq-of-lt, add-le-add, mul-le-mul-right, add-mul, add-assoc, add-left-comm, add-comm, mul-assoc, mul-right-comm, mul-add, mul-one, lt-of-lt-of-le, zero-mul, zero-add}
 use native.Mathlib.Numerals.{add-one}
 use native.Mathlib.Omega.{arith}
 use lib.Arith.{digits-lt}
 use lib.Dec.{lit<}
 use lib.Pow.{pow-pos, pow-mono, pow-add, split, shr-shr, high, low, field, mod-mod-pow, ones-lt, ones-split}
 use lib.Bits.{bitAnd, and-block, and-mask, and-le-r}
-use lib.ListN.{length, getD, take, drop}
+use lib.ListN.{getD, take, drop}
 use Rattle.bits.specs.Bits.{octetBits, number}
 use Rattle.bits.proofs.BitLaws.{number-lowBits}
 use Rattle.bits.proofs.RunLaws.{run-value, length-octet}

@@ -1,14 +1,15 @@
 -- Laws of the packing queue: what it holds stays below its width, bits more with and without an octet written, whole octets, and its end.
 use mathlib.Core.Path.{_≡_, refl, ap, sym, _∙_}
 use mathlib.Core.Bool.{Bool}
+use mathlib.Core.Logic.{_≢_}
 use mathlib.Core.List.{List, [], _∷_, _++_}
-use Prim.Native.Nat.{ℕ, zero, suc, _+_, _-_, _*_, _/_, _%_, _^_, _≤_, _<_}
+use Prim.Native.Nat.{ℕ, zero, suc, _+_, _-_, _*_, _/_, _%_, _^_, _≤_, _<_, max}
 use native.Mathlib.Omega.{arith}
 use lib.Arith.{digits-lt}
 use lib.Dec.{lit<}
-use lib.Pow.{pow-add, shr-lt}
-use lib.ListN.{length, take, drop, set, replicate, length-append, length-replicate, length-drop, length-set, drop-of-length-le}
-use lib.Seq.{drop-drop, drop-append-le, drop-append-add, take-append-le, drop-at}
+use lib.Pow.{pow-add, shr-lt, shr-shr}
+use lib.ListN.{length, getD, take, drop, set, replicate, length-append, length-replicate, length-drop, length-set, drop-of-length-le}
+use lib.Seq.{drop-drop, drop-append-le, drop-append-add, take-append-le, drop-at, getD-set-same, getD-set-other, set-getD}
 use Rattle.bits.proofs.PackLaws.{length-octets, octets-snoc, octets-prefix, octets-zeros, padded, first-eight, after-eight, one-more}
 use Rattle.bits.specs.Bits.{number, zeros, octets}
 use Rattle.bits.proofs.BitLaws.{number-append, number-bound}
@@ -97,6 +98,80 @@ octets-more bs xs was k j n hb hx hj hk =
     octets-snoc (k + j) all ∙ ap (λ (z : ℕ). octets (k + j) all ++ (z ∷ [])) (rw here (ap number (take-append-le 8 (drop (j * 8) xs) (zeros 8) enough) ∙ eight)) in
     one-more (λ (i : ℕ). octets i all) was (k + j) x (length-octets (k + j) all) written hk
     ∙ ap (λ (i : ℕ). octets i all ++ drop i was) e
+
+-- the buffer with the first j of them written
+abbrev pub upto : List Bool → List Bool → List ℕ → ℕ → ℕ → List ℕ
+upto bs xs was k j = octets (k + j) (bs ++ xs) ++ drop (k + j) was
+
+length-upto : (bs xs : List Bool) (was : List ℕ) (k j : ℕ) → k + j ≤ length was → length (upto bs xs was k j) ≡ length was
+length-upto bs xs was k j h = rw (length-append, length-octets, length-drop) (omega arith)
+
+-- what has been written stands there
+stands : (bs xs : List Bool) (was : List ℕ) (k j n d : ℕ) → length bs ≡ k * 8 → length xs ≡ 8 * n → j + suc d ≤ n → k + n ≤ length was
+    → getD (upto bs xs was k (j + suc d)) (k + j) 0 ≡ number xs / 2 ^ (8 * (n - 1 - j)) % 256
+stands bs xs was k j n zero hb hx hj hk =
+    let inside : k + j < length (upto bs xs was k j) = rw (length-upto bs xs was k j (omega arith)) (omega arith) in
+    ap (λ (l : List ℕ). getD l (k + j) 0) (sym (octets-more bs xs was k j n hb hx (omega arith) (omega arith)))
+    ∙ getD-set-same (upto bs xs was k j) (k + j) (number xs / 2 ^ (8 * (n - 1 - j)) % 256) 0 inside
+stands bs xs was k j n (suc d) hb hx hj hk =
+    let i : ℕ = j + suc d in
+    let e : i + 1 ≡ j + suc (suc d) = omega arith in
+    let other : k + j ≢ k + i = λ h. absurd (omega (arith, h)) in
+    ap (λ (m : ℕ). getD (upto bs xs was k m) (k + j) 0) (sym e)
+    ∙ ap (λ (l : List ℕ). getD l (k + j) 0) (sym (octets-more bs xs was k i n hb hx (omega arith) (omega arith)))
+    ∙ getD-set-other (upto bs xs was k i) (k + i) (k + j) (number xs / 2 ^ (8 * (n - 1 - i)) % 256) 0 other
+    ∙ stands bs xs was k j n d hb hx (omega arith) hk
+
+-- one that comes next or has been written already
+octets-put : (bs xs : List Bool) (was : List ℕ) (k j n d v : ℕ) → length bs ≡ k * 8 → length xs ≡ 8 * n → j + d ≤ n → j < n → k + n ≤ length was
+    → v ≡ number xs / 2 ^ (8 * (n - 1 - j)) % 256
+    → set (upto bs xs was k (j + d)) (k + j) v ≡ upto bs xs was k (max (j + d) (j + 1))
+octets-put bs xs was k j n zero v hb hx hd hj hk hv =
+    let e : j + 0 ≡ j = omega arith in
+    let f : max j (j + 1) ≡ j + 1 = omega arith in
+    rw (e, f, hv) (octets-more bs xs was k j n hb hx hj (omega arith))
+octets-put bs xs was k j n (suc d) v hb hx hd hj hk hv =
+    let f : max (j + suc d) (j + 1) ≡ j + suc d = omega arith in
+    rw (f, hv, ← (stands bs xs was k j n d hb hx hd hk)) (set-getD (upto bs xs was k (j + suc d)) (k + j) 0)
+
+put-next : (bs xs : List Bool) (was : List ℕ) (k j n m i v : ℕ) → length bs ≡ k * 8 → length xs ≡ 8 * n → i ≡ k + j → j ≤ m → m ≤ n → j < n → k + n ≤ length was
+    → v ≡ number xs / 2 ^ (8 * (n - 1 - j)) % 256
+    → set (upto bs xs was k m) i v ≡ upto bs xs was k (max m (j + 1))
+put-next bs xs was k j n m i v hb hx hi hm hn hj hk hv =
+    let e : j + (m - j) ≡ m = omega arith in
+    rw hi (rw e at (octets-put bs xs was k j n (m - j) v hb hx (omega arith) hj hk hv))
+
+further : (m a : ℕ) → max (max m a) (a + 1) ≡ max m (a + 1)
+further m a = omega arith
+
+within : (m a n : ℕ) → m ≤ n → a ≤ n → max m a ≤ n
+within m a n h k = omega arith
+
+reached : (m a : ℕ) → a ≤ max m a
+reached m a = omega arith
+
+-- four of them from the one numbered j on, which y ends with
+pub put-four : (bs xs : List Bool) (was : List ℕ) (k j n m i y : ℕ) → length bs ≡ k * 8 → length xs ≡ 8 * n → i ≡ k + j → j ≤ m → m ≤ n → j + 4 ≤ n → k + n ≤ length was
+    → y ≡ number xs / 2 ^ (8 * (n - 4 - j))
+    → set (set (set (set (upto bs xs was k m) i (y / 2 ^ 24 % 256)) (i + 1) (y / 2 ^ 16 % 256)) (i + 2) (y / 2 ^ 8 % 256)) (i + 3) (y % 256)
+    ≡ upto bs xs was k (max m (j + 4))
+put-four bs xs was k j n m i y hb hx hi hm hn hj hk hy =
+    ap (λ (l : List ℕ). set (set (set l (i + 1) (y / 2 ^ 16 % 256)) (i + 2) (y / 2 ^ 8 % 256)) (i + 3) (y % 256))
+    (put-next bs xs was k j n m i (y / 2 ^ 24 % 256) hb hx hi hm hn (omega arith) hk (octet j 24 (omega arith)))
+    ∙ ap (λ (l : List ℕ). set (set l (i + 2) (y / 2 ^ 8 % 256)) (i + 3) (y % 256)) (next (j + 1) (i + 1) (y / 2 ^ 16 % 256) (omega arith) (omega arith) (octet (j + 1) 16 (omega arith)) (omega arith))
+    ∙ ap (λ (l : List ℕ). set l (i + 3) (y % 256)) (next (j + 2) (i + 2) (y / 2 ^ 8 % 256) (omega arith) (omega arith) (octet (j + 2) 8 (omega arith)) (omega arith))
+    ∙ next (j + 3) (i + 3) (y % 256) (omega arith) (omega arith) (ap (λ (z : ℕ). z % 256) (hy ∙ ap (λ (e : ℕ). number xs / 2 ^ e) (omega arith))) (omega arith)
+  where
+    octet : (a e : ℕ) → 8 * (n - 4 - j) + e ≡ 8 * (n - 1 - a) → y / 2 ^ e % 256 ≡ number xs / 2 ^ (8 * (n - 1 - a)) % 256
+    octet a e h =
+        ap (λ (z : ℕ). z / 2 ^ e % 256) hy ∙ ap (λ (z : ℕ). z % 256) (shr-shr (number xs) (8 * (n - 4 - j)) e)
+        ∙ ap (λ (d : ℕ). number xs / 2 ^ d % 256) h
+
+    next : (a b v : ℕ) → b ≡ k + a → a < n → v ≡ number xs / 2 ^ (8 * (n - 1 - a)) % 256 → {c : ℕ} → a + 1 ≡ c
+        → set (upto bs xs was k (max m a)) b v ≡ upto bs xs was k (max m c)
+    next a b v hb' ha hv hc =
+        put-next bs xs was k a n (max m a) b v hb hx hb' (reached m a) (within m a n hn (omega arith)) ha hk hv
+        ∙ ap (upto bs xs was k) (further m a ∙ ap (max m) hc)
 
 pub packed-octets : (bs xs : List Bool) (was buf now : List ℕ) (q : Queue) (n : ℕ) → Packed bs was buf q → q .held ≡ 0 → length xs ≡ 8 * n
     → q .at + n ≤ length was → now ≡ octets (q .at + n) (bs ++ xs) ++ drop (q .at + n) was

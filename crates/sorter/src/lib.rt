@@ -2,8 +2,8 @@
 ghost use mathlib.Core.Path.{_≡_};
 ghost use mathlib.Core.Bool.{Bool, true};
 ghost use mathlib.Core.List.{List, _++_};
-ghost use Prim.Native.Nat.{ℕ, _+_, _-_, _*_, _%_, _^_, _<_, _≤_};
-ghost use lib.ListN.{length, drop, take, replicate};
+ghost use Prim.Native.Nat.{ℕ, _+_, _-_, _*_, _/_, _%_, _^_, _<_, _≤_};
+ghost use lib.ListN.{length, drop, take, set, replicate};
 ghost use Rattle.bits.specs.Bits.{bitsOf, octetBits, octets, number};
 ghost use Rattle.frame.specs.Streams.{count, sort};
 ghost use Rattle.frame.specs.Block.{fitting};
@@ -187,14 +187,40 @@ fn gathered(line: &[u8], o: usize, run: Run) -> usize
     joined(fours, 1, 32, four)
 }
 
-// n octets more, eight at most, as the number x: where nothing waits they are written as they are, the highest first.
-// The loop has a fixed length, so that it is compiled without one.
-fn put_octets(out: &mut [u8], q: Queue, n: usize, x: usize) -> Queue
-    requires { ⌜ (q .held ≡ 0) × (n ≤ 8) × (q .at + n ≤ length (now out)) ⌝ }
+// The four octets of a number's 32 low bits, the highest first: compiled, they are written at once.
+fn put_four(out: &mut [u8], at: usize, x: usize)
+    requires { ⌜ at + 4 ≤ length (now out) ⌝ }
+    ensures { λ _. ⌜ now (out .exit) ≡ set (set (set (set (now (out .entry)) at (x / 2 ^ 24 % 256)) (at + 1) (x / 2 ^ 16 % 256)) (at + 2) (x / 2 ^ 8 % 256)) (at + 3) (x % 256) ⌝ }
+{
+    out[at] = ((x >> 24) % 256) as u8;
+    out[at + 1] = ((x >> 16) % 256) as u8;
+    out[at + 2] = ((x >> 8) % 256) as u8;
+    out[at + 3] = (x % 256) as u8;
+}
+
+// Four to eight octets more as the number x, where nothing waits: the first four and the last four, some of them maybe twice.
+fn put_many(out: &mut [u8], q: Queue, n: usize, x: usize) -> Queue
+    requires { ⌜ (q .held ≡ 0) × (4 ≤ n) × (n ≤ 8) × (q .at + n ≤ length (now out)) ⌝ }
     ensures { λ r. ⌜ ((bs xs : List Bool) (was : List ℕ) → Packed bs was (now (out .entry)) q → length xs ≡ 8 * n → number xs ≡ x → Packed (bs ++ xs) was (now (out .exit)) r) ⌝ }
 {
     let at = q.at;
-    for j in 0..8 {
+    put_four(out, at, x >> (8 * (n - 4)));
+    put_four(out, at + (n - 4), x);
+    Queue {
+        at: at + n,
+        held: 0,
+        waiting: 0,
+    }
+}
+
+// Up to three octets more as the number x, where nothing waits, the highest first.
+// The loop has a fixed length, so that it is compiled without one.
+fn put_few(out: &mut [u8], q: Queue, n: usize, x: usize) -> Queue
+    requires { ⌜ (q .held ≡ 0) × (n ≤ 3) × (q .at + n ≤ length (now out)) ⌝ }
+    ensures { λ r. ⌜ ((bs xs : List Bool) (was : List ℕ) → Packed bs was (now (out .entry)) q → length xs ≡ 8 * n → number xs ≡ x → Packed (bs ++ xs) was (now (out .exit)) r) ⌝ }
+{
+    let at = q.at;
+    for j in 0..3 {
         if j < n {
             out[at + j] = ((x >> (8 * (n - 1 - j))) % 256) as u8;
         }
@@ -204,6 +230,17 @@ fn put_octets(out: &mut [u8], q: Queue, n: usize, x: usize) -> Queue
         held: 0,
         waiting: 0,
     }
+}
+
+// n octets more, eight at most, as the number x: where nothing waits they are written as they are.
+fn put_octets(out: &mut [u8], q: Queue, n: usize, x: usize) -> Queue
+    requires { ⌜ (q .held ≡ 0) × (n ≤ 8) × (q .at + n ≤ length (now out)) ⌝ }
+    ensures { λ r. ⌜ ((bs xs : List Bool) (was : List ℕ) → Packed bs was (now (out .entry)) q → length xs ≡ 8 * n → number xs ≡ x → Packed (bs ++ xs) was (now (out .exit)) r) ⌝ }
+{
+    if n < 4 {
+        return put_few(out, q, n, x);
+    }
+    put_many(out, q, n, x)
 }
 
 // Eight octets of a block, one by one: their runs may differ, and bits may wait.

@@ -1,8 +1,8 @@
 -- `sorter::gathered` meets its contract: each joining leaves what is picked, and at the end that is all that there is.
 use borrow.Author.Needs.{needs}
 use native.Mathlib.Omega.{arith}
-use mathlib.Core.Path.{_≡_, refl, sym, ap, _∙_}
-use Prim.Native.Nat.{ℕ, _+_, _-_, _*_, _/_, _^_, _≤_, _<_}
+use mathlib.Core.Path.{refl, sym, ap, _∙_}
+use Prim.Native.Nat.{ℕ, _+_, _-_, _/_, _^_, _≤_, _<_}
 use denote.Ref.{now}
 use lib.Dec.{lit<}
 use lib.Pow.{pow-mono, pow-pos}

@@ -1,4 +1,4 @@
--- `sorter::put_octets` meets its contract. The loop's invariant: of the octets that come, the first j are written.
+-- `sorter::put_few` meets its contract. The loop's invariant: of the octets that come, the first j are written.
 use borrow.Author.Needs.{needs}
 use native.Mathlib.Omega.{arith}
 use mathlib.Core.Path.{_≡_, refl, sym, subst, _∙_, ap}
@@ -11,8 +11,8 @@ use lib.ListN.{length, drop, set, length-set}
 use Rattle.bits.specs.Bits.{number, octets}
 use Rattle.bits.proofs.PackLaws.{octets-prefix}
 use Rattle.sorter.proofs.QueueLaws.{octets-more, packed-octets}
-use Rattle.sorter.proofs.put_octets.Statement.{statement}
-use Rattle.sorter.proofs.put_octets.Tie as tie
+use Rattle.sorter.proofs.put_few.Statement.{statement}
+use Rattle.sorter.proofs.put_few.Tie as tie
 
 -- how the octets xs of the number x stand after those of bs, the first j of them written
 Written : (out₀ out : List ℕ) (at n x j : ℕ) → Type 0
@@ -35,10 +35,10 @@ written-all out₀ out at n x j hj before =
     subst (Written out₀ out at n x) e before
 
 abbrev Inv-loop : tie.InvT-loop
-Inv-loop out₀ n x at j₀ out j = (j ≤ 8) × (length out ≡ length out₀) × Written out₀ out at n x (min j n)
+Inv-loop out₀ n x at j₀ out j = (j ≤ 3) × (length out ≡ length out₀) × Written out₀ out at n x (min j n)
 
 abbrev μ-loop : tie.MeasureT-loop
-μ-loop out₀ n x at j₀ out j = 8 - j
+μ-loop out₀ n x at j₀ out j = 3 - j
 
 loop-holds : tie.Need-loop-holds Inv-loop μ-loop
 unfolding Written
@@ -104,8 +104,8 @@ returns c =
     packed-octets bs xs was (now (a .out)) (l .out) (a .q) (a .n) h (omega arith) hx (omega (arith, h .room))
     (l .inv .2 bs xs was (h .room) (omega (arith, h .ends)) hx hv (h .done) ∙ ap (λ (j : ℕ). octets (a .q .at + j) (bs ++ xs) ++ drop (a .q .at + j) was) e)
 
-pub put-octets-spec : {M : Type 1} → statement M
-put-octets-spec =
+pub put-few-spec : {M : Type 1} → statement M
+put-few-spec =
     tie.close
     (tie.spec
     Inv-loop
