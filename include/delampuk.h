@@ -1,8 +1,9 @@
 /* Delampuk for a card driver in C: one 64 kbit/s channel framed by ITU-T H.221, sent, read and searched for.
  *
- * Link target/staticlib/libcard.a, which `rt staticlib card` writes for x86-64; compile as C11. The library allocates nothing, has no
- * global data, keeps no pointer after a call and never stops the program: every number and every length has an answer, and a call that
- * cannot be done is refused with a number. Calls on states and buffers that are not shared may run at the same time.
+ * Link target/staticlib/libcard.a, which `rt staticlib card` writes for x86-64, or on another processor target/native/libcard.a, which
+ * `sh tools/native` writes; compile as C11. The library allocates nothing, has no global data, keeps no pointer after a call and never
+ * stops the program: every number and every length has an answer, and a call that cannot be done is refused with a number. Calls on
+ * states and buffers that are not shared may run at the same time.
  *
  * What the caller owes, for each call:
  *   - A buffer is a pointer and a length in octets. The pointer is not null, even where the length is 0, and that many octets behind it

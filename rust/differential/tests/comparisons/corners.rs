@@ -1,6 +1,7 @@
 //! The model's corner cases, each made for a decision.
 
-use differential::calls::{Octets, Read, Search, Send, WalkStep, WritePreset};
+use delampuk::TEXT_MAX;
+use differential::calls::{List, Octets, Read, Search, Send, WalkStep, WritePreset};
 use differential::states;
 use model::vectors::case::{Case, ReaderCase, SenderCase, WalkCase};
 use model::vectors::corners;
@@ -16,7 +17,7 @@ fn corner_cases() {
     });
 }
 
-/// Listings, words and the like are no calls of C.
+/// Words, remainders and the like are no calls of C by themselves.
 fn compare(trial: &mut Trial, case: Case) {
     match case {
         Case::Sender(case) => compare_send(trial, case),
@@ -24,6 +25,9 @@ fn compare(trial: &mut Trial, case: Case) {
         Case::Walk(case) => compare_step(trial, case),
         Case::Search(recording, start) => {
             trial.call(&Search { recording: Octets(recording), start });
+        }
+        Case::Listing(recording) => {
+            trial.call(&List { recording: Octets(recording), text: Octets(vec![0xA5; TEXT_MAX]) });
         }
         Case::PresetWrite(state) => {
             trial.call(&WritePreset { state: states::sender_octets(&state) });

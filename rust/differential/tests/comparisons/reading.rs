@@ -2,7 +2,10 @@
 
 use differential::draw;
 use differential::states::{self, Reader};
+use model::codes::Mode;
+use model::frame::BLOCK_OCTETS;
 use model::reader::ReaderState;
+use model::vectors::forge::{self, Line};
 
 use super::{run, Trial};
 
@@ -30,6 +33,34 @@ fn reader_takes_every_octet_in_each_field() {
                 let call = draw::read_on(&mut trial.random, forged, line);
                 trial.call(&call);
             }
+        }
+    });
+}
+
+/// Each word that a line can carry, read by a reader in step.
+#[test]
+fn every_word_is_read() {
+    let reached = run("every_word_is_read", u64::MAX, |trial| {
+        let state = states::reader_octets(&forge::reading(1, Mode::OFF)).expect("a session meets this state");
+        for word in 0..=u16::MAX {
+            let line = Line::new(1, 0).word(word.to_be_bytes());
+            let call = draw::read_on(&mut trial.random, state, line.octets);
+            trial.call(&call);
+        }
+    });
+    reached.all("reading", [0, 4, 5]);
+}
+
+/// The remainder of each block that has a single 1, which the reader keeps: every other remainder is a sum of these.
+#[test]
+fn remainder_of_each_bit() {
+    run("remainder_of_each_bit", u64::MAX, |trial| {
+        let state = states::reader_octets(&ReaderState::FRESH).expect("the library has a fresh state");
+        for bit in 0..8 * BLOCK_OCTETS {
+            let mut line = vec![0; BLOCK_OCTETS];
+            line[bit / 8] = 0x80 >> (bit % 8);
+            let call = draw::read_on(&mut trial.random, state, line);
+            trial.call(&call);
         }
     });
 }
