@@ -4,12 +4,11 @@ use mathlib.Core.Bool.{Bool, true, false, cond}
 use mathlib.Core.Logic.{_⊎_, inl, inr}
 use mathlib.Core.List.{List, _++_, append-assoc, append-nil}
 use Prim.Native.Nat.{ℕ, zero, suc, _+_, _-_, _*_, _%_, _^_, _≤_, _<_}
-use native.Mathlib.Nat.{mod-eq-of-lt, mul-comm, zero-add, add-zero, suc-add, zero-mul, suc-mul, lt-of-lt-of-le, mul-le-mul-left}
+use native.Mathlib.Nat.{mod-eq-of-lt, mul-comm, zero-add, add-zero, suc-add, zero-mul, suc-mul}
 use native.Mathlib.Numerals.{add-one}
 use native.Mathlib.Omega.{arith}
 use borrow.Author.Tests.{leb-true, leb-false, le-leb, lt-leb}
 use lib.Dec.{leb}
-use lib.Pow.{pow-mono}
 use lib.ListN.{length, getD, take, drop, length-append, length-replicate, length-drop, length-take}
 use lib.Seq.{drop-drop, take-add, drop-cons}
 use Rattle.bits.specs.Bits.{bitsOf, octetBits, number}
@@ -141,12 +140,6 @@ number-runs s n line o k h =
     let run : List Bool = take n (drop s (octetBits (getD line (o + k) 0))) in
     ap (λ (j : ℕ). number (runs s n line o j)) (add-one k) ∙ number-append (runs s n line o k) run
     ∙ rw (length-run s n (getD line (o + k) 0) h)
-
--- at most eight of them are a number of the machine
-pub runs-lt : (s n : ℕ) (line : List ℕ) (o k : ℕ) → s + n ≤ 8 → number (runs s n line o k) < 2 ^ (k * 8)
-runs-lt s n line o k h =
-    let b : number (runs s n line o k) < 2 ^ (k * n) = rw (length-runs s n line o k h) at (number-bound (runs s n line o k)) in
-    lt-of-lt-of-le b (pow-mono (mul-le-mul-left k (omega arith)))
 
 pub sofar-runs : (p : Layout) (w : Owner) (line : List ℕ) (o s n k : ℕ) → p .width + p .columns ≤ 7 → s + n ≤ 8 → o + k ≤ length line
     → ((j : ℕ) → j < k → (bs : List Bool) → sort w (rowBy p ((o + j) % 80 + 1)) bs ≡ take n (drop s bs))
