@@ -1,4 +1,4 @@
-//! Compiles the contestants in C and the clock, and links them and the library's own archive.
+//! Compiles the contestants in C and the clock, and links them.
 
 use std::env;
 use std::fs;
@@ -10,17 +10,7 @@ const FLAGS: [&str; 7] = ["-O3", "-std=c11", "-Wall", "-Wextra", "-Werror", "-pe
 fn main() {
     let root = PathBuf::from(env::var_os("CARGO_MANIFEST_DIR").expect("cargo names the package")).join("../..");
     let out = PathBuf::from(env::var_os("OUT_DIR").expect("cargo names a folder to write to"));
-    link_library(&root.join("target/native"));
     link_contestants(&root, &out);
-}
-
-/// The archive of this machine's own processor, which `tools/native` writes.
-fn link_library(folder: &Path) {
-    let archive = folder.join("libcard.a");
-    assert!(archive.exists(), "{} is missing: sh tools/native writes it", archive.display());
-    println!("cargo:rerun-if-changed={}", archive.display());
-    println!("cargo:rustc-link-search=native={}", folder.display());
-    println!("cargo:rustc-link-lib=static=card");
 }
 
 fn link_contestants(root: &Path, out: &Path) {

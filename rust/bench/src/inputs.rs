@@ -8,7 +8,7 @@ use model::vectors::forge::first_bits_before;
 use model::vectors::random::Random;
 
 use crate::contestants::{self, Contestant};
-use crate::forms::{Mode, Offer, Reader, Sender, Slot, LINE, LSD, RECORDING_MAX, VOICE};
+use crate::forms::{self, Mode, Offer, Reader, Sender, LINE, LSD, RECORDING_MAX, VOICE};
 use crate::recordings;
 
 /// The blocks of a sending or reading case: some multiframes.
@@ -154,7 +154,7 @@ fn in_step(sender: &Sender) -> Reader {
         firsts: bits::number(&first_bits_before(sender.block)) as u8,
         before: 1,
         remainder: sender.remainder,
-        ..Reader::fresh_with(sender.mode)
+        ..forms::fresh_with(sender.mode)
     }
 }
 
@@ -179,7 +179,7 @@ fn damage(input: &mut ReadInput) {
     for octet in [3, 10, 93, 86] {
         input.line[octet] ^= 1;
     }
-    input.state.slot = Slot::message(9);
+    input.state.slot = forms::words_due(9);
 }
 
 /// The third wrong alignment word.

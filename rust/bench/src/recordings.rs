@@ -3,7 +3,7 @@
 use model::vectors::random::Random;
 
 use crate::contestants::{self, Contestant};
-use crate::forms::{Mode, Offer, Sender, LINE, LSD, VOICE};
+use crate::forms::{self, Offer, Sender, LINE, LSD, VOICE};
 use crate::inputs::CODE;
 
 /// The first bits of a block's SC that the search asks for.
@@ -35,7 +35,7 @@ pub fn near_misses(length: usize) -> Vec<u8> {
 pub fn session(blocks: usize, codes: &[u8]) -> Vec<u8> {
     let framer = contestants::yardstick();
     let mut random = Random::new(blocks as u64);
-    let mut state = Sender { chosen: 31, mode: Mode::OFF, block: 1, due: 0, remainder: 0 };
+    let mut state = Sender { chosen: 31, mode: forms::ALL_OFF, block: 1, due: 0, remainder: 0 };
     let mut recording = vec![0; blocks * LINE];
     for (count, line) in recording.chunks_exact_mut(LINE).enumerate() {
         let code = count.checked_sub(6).and_then(|index| codes.get(index)).copied().unwrap_or(CODE);

@@ -38,23 +38,12 @@ mod recording;
 mod refusal;
 mod sender;
 
+pub use delampuk_sys::{LINE, LSD, RECORDING_MAX, VOICE};
 pub use preset::Preset;
 pub use reader::{Block, Reader, Standing, Verdict, Word};
 pub use recording::{list, search, Step, Steps, Streams, Walk};
 pub use refusal::Refusal;
 pub use sender::{Call, Sender, Sent};
-
-/// The octets of a block on the line.
-pub const LINE: usize = 160;
-
-/// The octets of a voice buffer, of which 20 count for each bit that the audio in force holds.
-pub const VOICE: usize = 140;
-
-/// The octets of a data buffer (H.221's low-speed data), of which as many bits count as the data in force holds.
-pub const LSD: usize = 156;
-
-/// The most octets that a recording may have.
-pub const RECORDING_MAX: usize = 65_536;
 
 /// The most octets that a listing has.
 pub const TEXT_MAX: usize = 16_384;

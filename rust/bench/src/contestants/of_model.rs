@@ -9,7 +9,7 @@ use model::service::Flags;
 use model::slots::{Due, Reading};
 
 use super::Contestant;
-use crate::forms::{BlockAnswer, Mode, Offer, ReadAnswer, ReadOutcome, Reader, SearchAnswer, SendAnswer, Sender, Slot};
+use crate::forms::{self, BlockAnswer, Mode, Offer, ReadAnswer, ReadOutcome, Reader, SearchAnswer, SendAnswer, Sender};
 
 /// The model.
 pub struct Model;
@@ -33,11 +33,11 @@ impl Contestant for Model {
             Ok(answer) => {
                 *state = sender_out(&held);
                 match answer {
-                    Answer::Sent => SendAnswer::SENT,
-                    Answer::Held => SendAnswer::HELD,
+                    Answer::Sent => forms::SENT,
+                    Answer::Held => forms::HELD,
                 }
             }
-            Err(refusal) => SendAnswer::refused(refusal.number()),
+            Err(refusal) => forms::send_refused(refusal.number()),
         }
     }
 
@@ -48,7 +48,7 @@ impl Contestant for Model {
                 let block = block_answer(&answer);
                 ReadOutcome { state: reader_out(&held), answer: ReadAnswer { kind: 0, number: 0, block } }
             }
-            Err(refusal) => ReadOutcome::refused(state, refusal.number()),
+            Err(refusal) => forms::read_refused(state, refusal.number()),
         }
     }
 
@@ -123,10 +123,12 @@ fn reader_out(state: &ReaderState) -> Reader {
         firsts: state.first_bits.iter().fold(0, |sum, &bit| sum << 1 | u8::from(bit)),
         misses: state.wrong_patterns,
         slot: match state.due {
-            Due::Nothing => Slot::PLAIN,
-            Due::Item => Slot::ITEM,
-            Due::Count => Slot::LENGTH,
-            Due::Message(words) => Slot::message(words.try_into().expect("no state in range has over 255 words due")),
+            Due::Nothing => forms::PLAIN_DUE,
+            Due::Item => forms::ITEM_DUE,
+            Due::Count => forms::LENGTH_DUE,
+            Due::Message(words) => {
+                forms::words_due(words.try_into().expect("no state in range has over 255 words due"))
+            }
         },
         before: state.before.into(),
         remainder: state.remainder,

@@ -4,7 +4,7 @@ use std::io::Write;
 
 use super::reader;
 use super::search::search;
-use crate::forms::{BlockAnswer, Mode, Reader, LINE, LSD, VOICE};
+use crate::forms::{self, BlockAnswer, LINE, LSD, VOICE};
 
 const STANDINGS: [&str; 3] = ["waiting", "read", "lost"];
 const VERDICTS: [&str; 3] = ["none", "good", "bad"];
@@ -25,7 +25,7 @@ fn write_listing(recording: &[u8], text: &mut &mut [u8]) -> std::io::Result<()> 
         Err(number) => return writeln!(text, "none {number}"),
     };
     writeln!(text, "found {place}")?;
-    let mut state = Reader::fresh_with(Mode::OFF);
+    let mut state = forms::fresh_with(forms::ALL_OFF);
     let (mut voice, mut lsd) = ([0; VOICE], [0; LSD]);
     let mut count = 0;
     while let Some(line) = recording.get(place..place + LINE) {

@@ -2,7 +2,7 @@
 
 use super::bits::BitWriter;
 use super::{bas, codes, crc, slots};
-use crate::forms::{BlockAnswer, Mode, ReadAnswer, ReadOutcome, Reader, Slot, LINE, LSD, VOICE};
+use crate::forms::{self, BlockAnswer, Mode, ReadAnswer, ReadOutcome, Reader, LINE, LSD, VOICE};
 
 const PATTERN: u8 = 0b00_1011;
 const WAITING: u8 = 0;
@@ -12,7 +12,7 @@ const LOST: u8 = 2;
 /// Reads one block and moves the state on, or refuses.
 pub fn read(state: Reader, line: &[u8], voice: &mut [u8], lsd: &mut [u8]) -> ReadOutcome {
     if let Some(number) = refusal(&state, line, voice, lsd) {
-        return ReadOutcome::refused(state, number);
+        return forms::read_refused(state, number);
     }
     let (next, block) = step(state, line);
     if block.standing == READ {
@@ -62,7 +62,7 @@ fn step(state: Reader, line: &[u8]) -> (Reader, BlockAnswer) {
     }
     next.wrong = if wrong_bits == 0 { 0 } else { state.wrong + 1 };
     if next.wrong == 3 {
-        return (Reader::fresh_with(next.kept), BlockAnswer { standing: LOST, ..BlockAnswer::NO_BLOCK });
+        return (forms::fresh_with(next.kept), BlockAnswer { standing: LOST, ..forms::NO_BLOCK });
     }
     let verdict = match (state.before, odd & 0xF == state.remainder) {
         (0, _) => 0,
@@ -72,7 +72,7 @@ fn step(state: Reader, line: &[u8]) -> (Reader, BlockAnswer) {
     next.before = 1;
     next.remainder = crc::of_block(line);
     next.slot = slots::tidy(state.slot);
-    let mut answer = BlockAnswer { standing: WAITING, verdict, ..BlockAnswer::NO_BLOCK };
+    let mut answer = BlockAnswer { standing: WAITING, verdict, ..forms::NO_BLOCK };
     if state.block != 0 {
         take_word(&mut next, &mut answer, line, wrong_bits);
     }
@@ -113,7 +113,7 @@ fn compare_pattern(next: &mut Reader, right: bool) {
     if next.misses == 3 {
         next.misses = 0;
         next.block = 0;
-        next.slot = Slot::PLAIN;
+        next.slot = forms::PLAIN_DUE;
     }
 }
 

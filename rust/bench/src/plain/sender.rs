@@ -3,7 +3,7 @@
 use super::bits::BitReader;
 use super::codes::{self, Layout, AUDIO, DATA, ESCAPE};
 use super::{bas, crc};
-use crate::forms::{Mode, Offer, SendAnswer, Sender, LINE, LSD, VOICE};
+use crate::forms::{self, Mode, Offer, SendAnswer, Sender, LINE, LSD, VOICE};
 
 const OFF: u8 = 31;
 /// First bits of the even and odd frames of blocks 1 to 8, but for T.
@@ -23,7 +23,7 @@ enum Turn {
 pub fn send(state: &mut Sender, offer: &Offer, line: &mut [u8]) -> SendAnswer {
     let turn = turn(state, offer.mute);
     if let Some(number) = refusal(state, offer, line, turn) {
-        return SendAnswer::refused(number);
+        return forms::send_refused(number);
     }
     let code = match turn {
         Turn::Item | Turn::Offered => offer.code,
@@ -34,8 +34,8 @@ pub fn send(state: &mut Sender, offer: &Offer, line: &mut [u8]) -> SendAnswer {
     let next = after_word(*state, turn, code);
     *state = Sender { block: state.block % 8 + 1, remainder: crc::of_block(line), ..next };
     match turn {
-        Turn::Item | Turn::Offered => SendAnswer::SENT,
-        Turn::MuteOff | Turn::Release => SendAnswer::HELD,
+        Turn::Item | Turn::Offered => forms::SENT,
+        Turn::MuteOff | Turn::Release => forms::HELD,
     }
 }
 
@@ -103,7 +103,7 @@ fn after_word(state: Sender, turn: Turn, code: u8) -> Sender {
     match (turn, codes::attribute(code)) {
         (Turn::MuteOff, _) => with_audio(OFF),
         (Turn::Release, _) => with_audio(state.chosen),
-        (Turn::Offered, AUDIO) if value == 0 => Sender { chosen: OFF, mode: Mode::OFF, ..next },
+        (Turn::Offered, AUDIO) if value == 0 => Sender { chosen: OFF, mode: forms::ALL_OFF, ..next },
         (Turn::Offered, AUDIO) => Sender { chosen: value, ..with_audio(value) },
         (Turn::Offered, DATA) => Sender { mode: Mode { lsd: value, ..state.mode }, ..next },
         (Turn::Offered, ESCAPE) if value < 24 => Sender { due: 1, ..next },

@@ -1,7 +1,7 @@
 //! What a BAS word means in its slot (01, "Slots").
 
 use super::codes::{self, AUDIO, DATA, ESCAPE};
-use crate::forms::{Mode, Slot};
+use crate::forms::{self, Mode, Slot};
 
 /// A word's reading, what is due next, and the mode after it.
 pub struct Taken {
@@ -21,7 +21,7 @@ const UNREADABLE: u8 = 5;
 pub fn tidy(slot: Slot) -> Slot {
     match slot.kind {
         0..=2 => Slot { words: 0, ..slot },
-        _ => Slot::message(slot.words),
+        _ => forms::words_due(slot.words),
     }
 }
 
@@ -30,13 +30,13 @@ pub fn take(slot: Slot, mode: Mode, code: Option<u8>) -> Taken {
     let slot = tidy(slot);
     let (reading, slot) = match (slot.kind, code) {
         (0, Some(code)) => return take_plain(mode, code),
-        (0 | 1, None) => (UNREADABLE, Slot::PLAIN),
-        (1, Some(code)) if codes::attribute(code) == ESCAPE => (FORBIDDEN, Slot::PLAIN),
-        (1, Some(_)) => (ITEM, Slot::PLAIN),
-        (2, None) => (UNREADABLE, Slot::message(255)),
-        (2, Some(words)) => (MESSAGE_WORD, Slot::message(words)),
-        (_, None) => (UNREADABLE, Slot::message(slot.words - 1)),
-        (_, Some(_)) => (MESSAGE_WORD, Slot::message(slot.words - 1)),
+        (0 | 1, None) => (UNREADABLE, forms::PLAIN_DUE),
+        (1, Some(code)) if codes::attribute(code) == ESCAPE => (FORBIDDEN, forms::PLAIN_DUE),
+        (1, Some(_)) => (ITEM, forms::PLAIN_DUE),
+        (2, None) => (UNREADABLE, forms::words_due(255)),
+        (2, Some(words)) => (MESSAGE_WORD, forms::words_due(words)),
+        (_, None) => (UNREADABLE, forms::words_due(slot.words - 1)),
+        (_, Some(_)) => (MESSAGE_WORD, forms::words_due(slot.words - 1)),
     };
     Taken { reading, slot, mode }
 }
@@ -44,17 +44,17 @@ pub fn take(slot: Slot, mode: Mode, code: Option<u8>) -> Taken {
 fn take_plain(mode: Mode, code: u8) -> Taken {
     let taken = |reading, slot, mode| Taken { reading, slot, mode };
     match (codes::attribute(code), codes::value(code)) {
-        (ESCAPE, 0..=23) => taken(MENDED, Slot::ITEM, mode),
-        (ESCAPE, 25..=31) => taken(MENDED, Slot::LENGTH, mode),
-        (0b000..=0b011, _) if !codes::carried(code) => taken(NOT_FOLLOWED, Slot::PLAIN, mode),
-        _ => taken(MENDED, Slot::PLAIN, followed(mode, code)),
+        (ESCAPE, 0..=23) => taken(MENDED, forms::ITEM_DUE, mode),
+        (ESCAPE, 25..=31) => taken(MENDED, forms::LENGTH_DUE, mode),
+        (0b000..=0b011, _) if !codes::carried(code) => taken(NOT_FOLLOWED, forms::PLAIN_DUE, mode),
+        _ => taken(MENDED, forms::PLAIN_DUE, followed(mode, code)),
     }
 }
 
 fn followed(mode: Mode, code: u8) -> Mode {
     let value = codes::value(code);
     match codes::attribute(code) {
-        AUDIO if value == 0 => Mode::OFF,
+        AUDIO if value == 0 => forms::ALL_OFF,
         AUDIO => {
             let next = Mode { audio: value, ..mode };
             if codes::overlap(next) {

@@ -6,51 +6,14 @@
 //! States are numbers alone, of which the library takes any.
 #![allow(unsafe_code)]
 
-use super::{PresetBits, PresetOutcome, ReadOutcome, Reader, SearchAnswer, SendAnswer, Sender, StepOutcome};
-use crate::Call;
+use delampuk_sys::{
+    delampuk_fresh_reader, delampuk_fresh_sender, delampuk_list, delampuk_read, delampuk_read_preset, delampuk_search,
+    delampuk_send, delampuk_step, delampuk_write_preset, PresetBits, PresetOutcome, ReadOutcome, SearchAnswer,
+    SendAnswer, StepOutcome,
+};
+pub use delampuk_sys::{BlockAnswer, Mode, Reader, Sender, Slot};
 
-extern "C" {
-    fn delampuk_fresh_sender() -> Sender;
-    fn delampuk_send(
-        state: *mut Sender,
-        mute: u8,
-        code: u8,
-        a: u8,
-        e: u8,
-        t: u8,
-        voice: *const u8,
-        voice_length: usize,
-        lsd: *const u8,
-        lsd_length: usize,
-        line: *mut u8,
-        line_length: usize,
-    ) -> SendAnswer;
-    fn delampuk_read_preset(bits: u16) -> PresetOutcome;
-    fn delampuk_write_preset(state: Sender) -> PresetBits;
-    fn delampuk_fresh_reader() -> Reader;
-    fn delampuk_read(
-        state: Reader,
-        line: *const u8,
-        line_length: usize,
-        voice: *mut u8,
-        voice_length: usize,
-        lsd: *mut u8,
-        lsd_length: usize,
-    ) -> ReadOutcome;
-    fn delampuk_search(recording: *const u8, length: usize, start: usize) -> SearchAnswer;
-    fn delampuk_step(
-        recording: *const u8,
-        length: usize,
-        place: usize,
-        lost: u8,
-        state: Reader,
-        voice: *mut u8,
-        voice_length: usize,
-        lsd: *mut u8,
-        lsd_length: usize,
-    ) -> StepOutcome;
-    fn delampuk_list(recording: *const u8, length: usize, text: *mut u8, text_length: usize) -> usize;
-}
+use crate::Call;
 
 pub fn fresh_sender() -> Sender {
     // SAFETY: the call takes nothing and gives numbers.
