@@ -1,6 +1,8 @@
 pub mod BitLaws
 pub mod CrcLaws
+pub mod EightLaws
 pub mod Every
+pub mod FoldLaws
 pub mod PackLaws
 pub mod RemainderLaws
 pub mod RunLaws

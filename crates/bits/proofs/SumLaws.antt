@@ -2,21 +2,18 @@
 use mathlib.Core.Path.{_≡_, refl, sym, ap, ap₂, _∙_, subst}
 use mathlib.Core.Bool.{Bool, true, xor}
 use mathlib.Core.List.{List, [], _∷_, _++_}
-use Prim.Native.Nat.{ℕ, _+_, _*_, _/_, _%_, _^_, _≤_, _<_}
-use native.Mathlib.Nat.{div-eq-of-lt, lt-of-lt-of-le}
-use native.Mathlib.Numerals.{add-one}
+use Prim.Native.Nat.{ℕ, _+_, _*_, _/_, _%_, _^_, _<_}
+use native.Mathlib.Nat.{div-eq-of-lt}
 use native.Mathlib.Omega.{arith}
 use borrow.Author.Tests.{eqb-true}
 use lib.Bits.{bitXor}
 use lib.Dec.{eqb}
-use lib.ListN.{length, getD, take, drop, length-take, length-drop}
-use lib.Pow.{pow-mono}
-use lib.Seq.{length-take-le, take-add, take-suc}
-use Rattle.bits.specs.Bits.{odd, lowBits, octetBits, bitsOf, number, zeros, xors}
+use lib.ListN.{length}
+use Rattle.bits.specs.Bits.{odd, lowBits, bitsOf, number, zeros, xors}
 use Rattle.bits.specs.Remainder.{scaled, fed, continued, remainder}
 use Rattle.bits.specs.Crc.{crc4Generator, crc4Of, crc4From}
-use Rattle.bits.proofs.BitLaws.{xors-comm, xors-zeros, xors-append, length-lowBits, lowBits-mod, lowBits-zero, lowBits-append, lowBits-shifted, lowBits-xor, lowBits-back, number-append, number-bound, number-fits, number-inj, bitsOf-append, bitsOf-one, length-bitsOf}
-use Rattle.bits.proofs.RemainderLaws.{length-continued, continued-append, remainder-append, remainder-zeros, Period, period-times, remainder-after-zeros, remainder-moved}
+use Rattle.bits.proofs.BitLaws.{xors-comm, xors-zeros, xors-append, length-lowBits, lowBits-mod, lowBits-zero, lowBits-append, lowBits-shifted, lowBits-xor, lowBits-back, number-bound, number-inj, bitsOf-append, bitsOf-one}
+use Rattle.bits.proofs.RemainderLaws.{length-continued, continued-append, remainder-append, Period, period-times, remainder-after-zeros, remainder-moved}
 use Rattle.bits.proofs.CrcLaws.{crc4From-zero, crc4From-append}
 use Rattle.bits.proofs.Every.{everyBelow, below}
 
@@ -38,12 +35,12 @@ crc4-period r h =
     ∙ eqb-true _ _ (below 16 comesBack all-come-back (number r) small))
 
 -- and so over every multiple
-crc4-times : (k : ℕ) → Period crc4Generator (15 * k)
+pub crc4-times : (k : ℕ) → Period crc4Generator (15 * k)
 crc4-times k = period-times crc4Generator 15 k crc4-period
 
 -- ---- the remainder of a number's bits
 -- zeros above a number do not show
-remainder-fits : (g : List Bool) (j k n : ℕ) → n < 2 ^ k → remainder g (lowBits (j + k) n) ≡ remainder g (lowBits k n)
+pub remainder-fits : (g : List Bool) (j k n : ℕ) → n < 2 ^ k → remainder g (lowBits (j + k) n) ≡ remainder g (lowBits k n)
 remainder-fits g j k n h =
     ap (remainder g)
     (lowBits-append j k n ∙ ap (λ (l : List Bool). l ++ lowBits k n) (ap (lowBits j) (div-eq-of-lt h) ∙ lowBits-zero j))
@@ -66,28 +63,7 @@ remainder-halved g p n q =
 sixty : (s : ℕ) → s < 2 ^ 64 → remainder crc4Generator (lowBits 64 s) ≡ remainder crc4Generator (lowBits 60 (down 60 s))
 sixty s h = sym (remainder-fits crc4Generator 56 64 s h) ∙ remainder-halved crc4Generator 60 s (crc4-times 4)
 
--- ---- octets as a number
--- a loop's turn: one octet more
-pub number-turn : (s : List ℕ) (i : ℕ) → i < length s → getD s i 0 < 256
-    → number (bitsOf (take i s)) * 256 + getD s i 0 ≡ number (bitsOf (take (i + 1) s))
-number-turn s i h b =
-    let x = getD s i 0 in
-    sym
-    (ap (λ (l : List ℕ). number (bitsOf l)) (ap (λ (n : ℕ). take n s) (add-one i) ∙ take-suc s i 0 h)
-    ∙ ap number (bitsOf-append (take i s) (x ∷ []) ∙ ap (λ (l : List Bool). bitsOf (take i s) ++ l) (bitsOf-one x))
-    ∙ number-append (bitsOf (take i s)) (octetBits x)
-    ∙ rw (length-lowBits 8 x, number-fits 8 x b))
-
--- seven octets are less than 2^56
-pub number-seven : (s : List ℕ) (i : ℕ) → i < 8 → number (bitsOf (take i s)) < 2 ^ 56
-number-seven s i h =
-    let few : length (bitsOf (take i s)) ≤ 56 = rw (length-bitsOf (take i s), length-take i s) (omega arith) in
-    lt-of-lt-of-le (number-bound (bitsOf (take i s))) (pow-mono few)
-
 -- ---- the sum of octets, eight by eight
-pub sum-none : remainder crc4Generator (lowBits 64 0) ≡ remainder crc4Generator []
-sum-none = ap (remainder crc4Generator) (lowBits-zero 64) ∙ remainder-zeros crc4Generator 64 ∙ sym (remainder-zeros crc4Generator 0)
-
 -- eight octets more
 pub sum-more : (s e : ℕ) → s < 2 ^ 64
     → remainder crc4Generator (lowBits 64 (bitXor (down 60 s * 2 ^ 4 % 2 ^ 64) e))
@@ -112,21 +88,6 @@ sum-more s e h =
     ∙ ap (λ (r : List Bool). continued g r c) (sym (remainder-moved g a b hab (subst (Period g) (sym hb) (crc4-times 4))) ∙ remainder-append g a b)
     ∙ sym (continued-append g (remainder g a) b c)
     ∙ ap₂ (continued g) (sym (sixty s h)) (sym parts)
-
--- a loop's turn: the next eight octets
-pub sum-turn : (s : List ℕ) (k : ℕ) → 8 * k + 8 ≤ length s
-    → continued crc4Generator (remainder crc4Generator (bitsOf (take (8 * k) s))) (lowBits 64 (number (bitsOf (take 8 (drop (8 * k) s)))))
-    ≡ remainder crc4Generator (bitsOf (take (8 * (k + 1)) s))
-sum-turn s k h =
-    let g = crc4Generator in
-    let m = take (8 * k) s in
-    let e = take 8 (drop (8 * k) s) in
-    let many : 8 ≤ length (drop (8 * k) s) = rw (length-drop (8 * k) s) (omega arith) in
-    let wide : length (bitsOf e) ≡ 64 = rw (length-bitsOf e, length-take-le 8 (drop (8 * k) s) many) in
-    let next : 8 * (k + 1) ≡ 8 * k + 8 = omega arith in
-    ap (continued g (remainder g (bitsOf m))) (lowBits-back 64 (bitsOf e) wide)
-    ∙ sym (remainder-append g (bitsOf m) (bitsOf e))
-    ∙ ap (remainder g) (sym (bitsOf-append m e) ∙ ap bitsOf (sym (take-add (8 * k) 8 s) ∙ ap (λ (n : ℕ). take n s) (sym next)))
 
 -- ---- the CRC-4 that a sum leaves
 -- two octets from fifteen bits

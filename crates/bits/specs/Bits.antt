@@ -4,7 +4,7 @@ use mathlib.Core.Bool.{Bool, true, false, xor}
 use mathlib.Core.List.{List, [], _∷_, _++_}
 use Prim.Native.Nat.{ℕ, zero, suc, _+_, _*_, _/_, _%_, _^_}
 use lib.Dec.{eqb}
-use lib.ListN.{length, take, drop, replicate}
+use lib.ListN.{length, getD, take, drop, replicate}
 
 -- the lowest bit of a number
 unfoldable pub odd : ℕ → Bool
@@ -48,3 +48,11 @@ xors (x ∷ xs) (y ∷ ys) = xor x y ∷ xors xs ys
 unfoldable pub octets : ℕ → List Bool → List ℕ
 octets zero bs = []
 octets (suc n) bs = number (take 8 (bs ++ zeros 8)) ∷ octets n (drop 8 bs)
+
+-- n octets from a place on as one number, the first highest; octets past the end count as 0
+unfoldable pub numberAt : List ℕ → ℕ → ℕ → ℕ
+numberAt octets at zero = 0
+numberAt octets at (suc n) = numberAt octets at n * 256 + getD octets (at + n) 0 % 256
+
+abbrev pub eightAt : List ℕ → ℕ → ℕ
+eightAt octets at = numberAt octets at 8
