@@ -1,3 +1,4 @@
 pub mod PlaceLaws
+pub mod PlaneLaws
 pub mod WrongLaws
 pub mod GroupLaws

@@ -36,18 +36,22 @@ unfolding aligned
 too-short part h = rw (lt-leb 168 (length part) h, and-false)
 
 -- ---- one place further on
-pub first-none : (at : ℕ) (recording : List ℕ) → length recording ≤ at → firstFrom at recording ≡ Refused NoPlace
-unfolding firstOf
-first-none at recording h =
-    let e : length recording - at ≡ 0 = omega arith in
-    ap (λ (n : ℕ). firstOf n at recording) e
-
 pub first-step : (at : ℕ) (recording : List ℕ) → at < length recording
     → firstFrom at recording ≡ cond (aligned (drop at recording)) (Place at) (firstFrom (at + 1) recording)
 unfolding firstOf
 first-step at recording h =
     let e : length recording - at ≡ suc (length recording - (at + 1)) = omega arith in
     ap (λ (n : ℕ). firstOf n at recording) e
+
+none-left : (n at : ℕ) (recording : List ℕ) → length recording < at + 168 → firstOf n at recording ≡ Refused NoPlace
+unfolding firstOf
+none-left zero at recording h = refl
+none-left (suc n) at recording h =
+    rw (too-short (drop at recording) (omega (arith, length-drop at recording))) (none-left n (at + 1) recording (omega arith))
+
+-- no place has fewer than 168 octets after it
+pub first-none : (at : ℕ) (recording : List ℕ) → length recording < at + 168 → firstFrom at recording ≡ Refused NoPlace
+first-none at recording = none-left (length recording - at) at recording
 
 -- ---- what an answer says of the places from `at` on: the place fits and none before it does, or none at all does
 abbrev Says : ℕ → List ℕ → Found → Type 0

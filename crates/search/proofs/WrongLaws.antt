@@ -2,16 +2,15 @@
 use mathlib.Core.Path.{_≡_, refl, sym, ap, ap₂, _∙_}
 use mathlib.Core.Bool.{Bool, true, false, not, xor, _&&_, _||_, and-true}
 use mathlib.Core.List.{List, [], _∷_}
-use Prim.Native.Nat.{ℕ, zero, suc, _+_, _%_, _≤_}
+use Prim.Native.Nat.{ℕ, zero, suc, _+_, _%_, _≤_, _<_}
 use native.Mathlib.Nat.{add-assoc}
 use native.Mathlib.Omega.{arith}
 use lib.Dec.{eqb}
 use lib.ListN.{length, getD, drop, length-drop}
 use lib.Seq.{getD-drop}
-use lib.Bits.{bitXor}
 use borrow.Author.Tests.{ne-eqb, le-leb}
 use Rattle.bits.specs.Bits.{odd, digit, number}
-use Rattle.bits.proofs.BitLaws.{odd-xor, number-bound, digit-odd}
+use Rattle.bits.proofs.BitLaws.{number-bound, digit-odd}
 use Rattle.frame.specs.Service.{evenAlignment}
 use Rattle.frame.specs.Channel.{channelBits}
 use Rattle.search.specs.Finding.{spells, aligned}
@@ -21,14 +20,18 @@ other-word : (bits : List Bool) → (number bits ≡ 27 → ⊥) → true ≡ no
 other-word bits h = sym (ap not (ne-eqb (number bits) 27 h))
 
 word-wrong : (a b c d e f g : Bool)
-    → (a || b || xor c true || xor d true || e || xor f true || xor g true) ≡ not (eqb (number (a ∷ b ∷ c ∷ d ∷ e ∷ f ∷ g ∷ [])) 27)
+    → (a || b || e || xor (c && d && f && g) true) ≡ not (eqb (number (a ∷ b ∷ c ∷ d ∷ e ∷ f ∷ g ∷ [])) 27)
 unfolding number xor
 word-wrong true b c d e f g = other-word (true ∷ b ∷ c ∷ d ∷ e ∷ f ∷ g ∷ []) (λ h. omega arith)
 word-wrong false true c d e f g = other-word (false ∷ true ∷ c ∷ d ∷ e ∷ f ∷ g ∷ []) (λ h. omega arith)
-word-wrong false false false d e f g =
-    other-word (false ∷ false ∷ false ∷ d ∷ e ∷ f ∷ g ∷ []) (λ h. omega (arith, number-bound (d ∷ e ∷ f ∷ g ∷ [])))
-word-wrong false false true false e f g =
-    other-word (false ∷ false ∷ true ∷ false ∷ e ∷ f ∷ g ∷ []) (λ h. omega (arith, number-bound (e ∷ f ∷ g ∷ [])))
+word-wrong false false false d true f g =
+    other-word (false ∷ false ∷ false ∷ d ∷ true ∷ f ∷ g ∷ []) (λ h. omega (arith, number-bound (d ∷ true ∷ f ∷ g ∷ [])))
+word-wrong false false false d false f g =
+    other-word (false ∷ false ∷ false ∷ d ∷ false ∷ f ∷ g ∷ []) (λ h. omega (arith, number-bound (d ∷ false ∷ f ∷ g ∷ [])))
+word-wrong false false true false true f g =
+    other-word (false ∷ false ∷ true ∷ false ∷ true ∷ f ∷ g ∷ []) (λ h. omega (arith, number-bound (true ∷ f ∷ g ∷ [])))
+word-wrong false false true false false f g =
+    other-word (false ∷ false ∷ true ∷ false ∷ false ∷ f ∷ g ∷ []) (λ h. omega (arith, number-bound (false ∷ f ∷ g ∷ [])))
 word-wrong false false true true true f g = other-word (false ∷ false ∷ true ∷ true ∷ true ∷ f ∷ g ∷ []) (λ h. omega arith)
 word-wrong false false true true false false g =
     other-word (false ∷ false ∷ true ∷ true ∷ false ∷ false ∷ g ∷ []) (λ h. omega (arith, number-bound (g ∷ [])))
@@ -44,18 +47,13 @@ channel-seven at part = simp add-assoc
 
 pub not-spelled : (at : ℕ) (part : List ℕ)
     → (let sc : ℕ → Bool = λ i. odd (getD part i 0) in
-    (sc at || sc (at + 1) || xor (sc (at + 2)) true || xor (sc (at + 3)) true || sc (at + 4) || xor (sc (at + 5)) true || xor (sc (at + 6)) true)
+    (sc at || sc (at + 1) || sc (at + 4) || xor (sc (at + 2) && sc (at + 3) && sc (at + 5) && sc (at + 6)) true)
     ≡ not (spells at part))
 unfolding spells number
 not-spelled at part =
     let sc : ℕ → Bool = λ i. odd (getD part i 0) in
     word-wrong (sc at) (sc (at + 1)) (sc (at + 2)) (sc (at + 3)) (sc (at + 4)) (sc (at + 5)) (sc (at + 6))
     ∙ ap (λ (bits : List Bool). not (eqb (number bits) 27)) (sym (channel-seven at part))
-
--- the machine's exclusive or with 1 turns the lowest bit round
-pub odd-turned : (a : ℕ) → odd (bitXor a 1) ≡ xor (odd a) true
-unfolding odd
-odd-turned a = odd-xor a 1
 
 -- a number is even where its lowest bit is 0
 pub even-is : (n : ℕ) → eqb (n % 2) 0 ≡ not (odd n)
@@ -90,3 +88,22 @@ not-aligned at part h =
     let inside : 168 ≤ length (drop at part) = omega (arith, length-drop at part) in
     rw (le-leb 168 (length (drop at part)) inside, and-true, spells-on at 1 part, spells-on at 161 part, getD-drop at part 81 0)
     (one-wrong (spells (at + 1) part) (odd (getD part (at + 81) 0)) (spells (at + 161) part))
+
+-- ---- where SC is the same, alignment stands or does not
+channel-same : (w n at : ℕ) (xs ys : List ℕ) → at + n ≤ w → ((j : ℕ) → j < w → odd (getD xs j 0) ≡ odd (getD ys j 0))
+    → channelBits n at xs ≡ channelBits n at ys
+unfolding channelBits
+channel-same w zero at xs ys h same = refl
+channel-same w (suc n) at xs ys h same = ap₂ _∷_ (same at (omega arith)) (channel-same w n (at + 1) xs ys (omega arith) same)
+
+pub aligned-same : (xs ys : List ℕ) → 168 ≤ length xs → 168 ≤ length ys
+    → ((j : ℕ) → j < 168 → odd (getD xs j 0) ≡ odd (getD ys j 0)) → aligned xs ≡ aligned ys
+unfolding aligned spells
+aligned-same xs ys h k same =
+    rw (
+      le-leb 168 (length xs) h,
+      le-leb 168 (length ys) k,
+      same 81 (omega arith),
+      channel-same 168 7 1 xs ys (omega arith) same,
+      channel-same 168 7 161 xs ys (omega arith) same,
+    )

@@ -1,8 +1,10 @@
--- How the search goes on by 64 places at a time. The contracts of inner functions speak of it; those of public ones do not.
+-- How the search tests many places together. The contracts of inner functions speak of it; those of public ones do not.
+use mathlib.Core.Path.{_≡_}
 use mathlib.Core.Bool.{Bool, true, not, _&&_}
-use mathlib.Core.List.{List}
-use Prim.Native.Nat.{ℕ, zero, suc, _-_}
-use lib.ListN.{length, drop}
+use mathlib.Core.List.{List, map}
+use Prim.Native.Nat.{ℕ, zero, suc, _+_, _-_, _*_, _/_, _^_, _<_}
+use lib.ListN.{length, getD, drop}
+use Rattle.bits.specs.Bits.{odd}
 use Rattle.search.specs.Finding.{aligned, firstOf}
 use Rattle.search.specs.declared.Found.{Found}
 
@@ -14,3 +16,15 @@ noneOf (suc n) part = noneOf n part && not (aligned (drop n part))
 -- the smallest place from this one to the end
 abbrev pub firstFrom : ℕ → List ℕ → Found
 firstFrom at recording = firstOf (length recording - at) at recording
+
+-- what each of the eight bits of an octet says, the lowest first
+abbrev pub EachBit : ℕ → (ℕ → Bool) → Type 0
+EachBit r says = (k : ℕ) → k < 8 → odd (r / 2 ^ k) ≡ says k
+
+-- octets with bit k where SC stands
+unfoldable pub plane : ℕ → List ℕ → List ℕ
+plane k part = map (λ (x : ℕ). x / 2 ^ k) part
+
+-- bit k has the SC of what stands 256 k octets further on
+abbrev pub Folded : List ℕ → List ℕ → Type 0
+Folded bits part = (i : ℕ) → i < 424 → EachBit (getD bits i 0) (λ k. odd (getD part (256 * k + i) 0))

@@ -1,11 +1,11 @@
 // The search for alignment in a recording of the line (document 01, 'Finding alignment').
 ghost use mathlib.Core.Path.{_≡_};
 ghost use mathlib.Core.Bool.{not};
-ghost use Prim.Native.Nat.{_+_, _-_, _≤_};
-ghost use lib.ListN.{length, drop};
+ghost use Prim.Native.Nat.{ℕ, _+_, _-_, _*_, _/_, _^_, _≤_, _<_};
+ghost use lib.ListN.{length, getD, drop};
 ghost use Rattle.bits.specs.Bits.{odd};
 ghost use Rattle.search.specs.Finding.{spells, aligned, numberOf, searchOf};
-ghost use Rattle.search.specs.Groups.{noneOf, firstFrom};
+ghost use Rattle.search.specs.Groups.{plane, EachBit, Folded, noneOf, firstFrom};
 
 // Why a search is refused, in the order of document 01's numbers.
 pub enum Refusal {
@@ -29,26 +29,23 @@ pub fn number_of(r: Refusal) -> u8
     }
 }
 
-// Odd where the seven SC bits from an offset on are not 0011011: the lowest bit is 1 where one of them is wrong.
+// Where the seven octets from an offset on do not spell 0011011, each of their eight bits by itself: bit 0 is SC.
 fn wrong_word(part: &[u8], at: usize) -> u8
     requires { ⌜ at + 7 ≤ length (now part) ⌝ }
-    ensures { λ r. ⌜ odd r ≡ not (spells at (now (part .entry))) ⌝ }
+    ensures { λ r. ⌜ EachBit r (λ k. not (spells at (plane k (now (part .entry))))) ⌝ }
 {
     part[at]
         | part[at + 1]
-        | (part[at + 2] ^ 1)
-        | (part[at + 3] ^ 1)
         | part[at + 4]
-        | (part[at + 5] ^ 1)
-        | (part[at + 6] ^ 1)
+        | ((part[at + 2] & part[at + 3] & part[at + 5] & part[at + 6]) ^ 255)
 }
 
-// Odd where alignment does not stand at a place. It has no branch, so that the compiler can test many places at once.
+// Where alignment does not stand at a place, each bit by itself. It has no branch, so that the compiler can test many places at once.
 fn wrong_at(part: &[u8], at: usize) -> u8
     requires { ⌜ at + 168 ≤ length (now part) ⌝ }
-    ensures { λ r. ⌜ odd r ≡ not (aligned (drop at (now (part .entry)))) ⌝ }
+    ensures { λ r. ⌜ EachBit r (λ k. not (aligned (drop at (plane k (now (part .entry)))))) ⌝ }
 {
-    wrong_word(part, at + 1) | (part[at + 81] ^ 1) | wrong_word(part, at + 161)
+    wrong_word(part, at + 1) | (part[at + 81] ^ 255) | wrong_word(part, at + 161)
 }
 
 // The test of one place, on the recording from that place on. Most places fail at the first word.
@@ -64,17 +61,60 @@ fn is_aligned(part: &[u8]) -> bool
     wrong_at(part, 0) % 2 == 0
 }
 
-// Alignment stands at none of the first 64 places; the 168 octets of the last end with octet 231. All are tested, whatever
-// the first ones say: a loop without a way out is what the compiler tests together.
-fn none_of_64(part: &[u8]) -> bool
-    requires { ⌜ 231 ≤ length (now part) ⌝ }
-    ensures { λ r. ⌜ r ≡ noneOf 64 (now (part .entry)) ⌝ }
+// Where alignment stands at none of the first places, each bit by itself. All are tested, whatever the first ones say: a loop without a
+// way out is what the compiler tests together.
+fn none_of(part: &[u8], places: usize) -> u8
+    requires { ⌜ places + 167 ≤ length (now part) ⌝ }
+    ensures { λ r. ⌜ EachBit r (λ k. noneOf places (plane k (now (part .entry)))) ⌝ }
 {
-    let mut all: u8 = 1;
-    for i in 0..64 {
+    let mut all: u8 = 255;
+    for i in 0..places {
         all = all & wrong_at(part, i);
     }
-    all % 2 == 1
+    all
+}
+
+// The bits of an octet go up by one, and below them comes the SC bit of another octet.
+fn followed(bits: u8, octet: u8) -> u8
+    ensures { λ r. ⌜ (odd r ≡ odd octet) × ((k : ℕ) → k < 7 → odd (r / 2 ^ (k + 1)) ≡ odd (bits / 2 ^ k)) ⌝ }
+{
+    bits % 128 * 2 + octet % 2
+}
+
+// The SC bits of eight octets that stand 256 apart, the first of them lowest.
+fn folded_at(part: &[u8], at: usize) -> u8
+    requires { ⌜ at + 1793 ≤ length (now part) ⌝ }
+    ensures { λ r. ⌜ EachBit r (λ k. odd (getD (now (part .entry)) (256 * k + at) 0)) ⌝ }
+{
+    let mut bits: u8 = 0;
+    for k in 0..8 {
+        bits = followed(bits, part[256 * (7 - k) + at]);
+    }
+    bits
+}
+
+// Eight parts of 256 places laid over one another, the SC of each in a bit of its own, with the 168 octets that follow.
+fn folded(part: &[u8]) -> [u8; 424]
+    requires { ⌜ 2216 ≤ length (now part) ⌝ }
+    ensures { λ r. ⌜ Folded r (now (part .entry)) ⌝ }
+{
+    let mut bits: [u8; 424] = [0; 424];
+    for i in 0..424 {
+        bits[i] = folded_at(part, i);
+    }
+    bits
+}
+
+// Alignment stands at none of the first places. 2,048 are tested eight at a time, which costs more than it brings where they are few.
+fn none_of_group(part: &[u8], places: usize) -> bool
+    requires { ⌜ places + 168 ≤ length (now part) ⌝ }
+    ensures { λ r. ⌜ r ≡ noneOf places (now (part .entry)) ⌝ }
+{
+    if places == 2048 {
+        let bits = folded(part);
+        return none_of(&bits, 256) == 255;
+    }
+    none_of(part, places) % 2 == 1
 }
 
 // How many octets of a recording stand from the start on: none where the start is past the end.
@@ -87,27 +127,44 @@ fn octets_from(all: usize, start: usize) -> usize
     0
 }
 
-// Where the test of one place after the other has to begin: groups of 64 places without alignment are passed over.
-fn after_groups(recording: &[u8], start: usize) -> usize
+// Where the search goes on after groups of so many places, so many groups at most: as far as they are whole and without alignment.
+fn after_groups(recording: &[u8], start: usize, places: usize, groups: usize) -> usize
+    requires { ⌜ places ≤ 2048 ⌝ }
     ensures { λ r. ⌜ firstFrom r (now (recording .entry)) ≡ firstFrom start (now (recording .entry)) ⌝ }
 {
     let all = recording.len();
     let mut at = start;
-    while 231 <= octets_from(all, at) {
-        if !none_of_64(&recording[at..]) {
+    for k in 0..groups {
+        if octets_from(all, at) < places + 168 {
             return at;
         }
-        at = at + 64;
+        if !none_of_group(&recording[at..], places) {
+            return at;
+        }
+        at = at + places;
     }
     at
 }
 
-// The smallest place from a given one on where alignment stands, by the test of one place after the other.
+// Where the test of one place after the other has to begin. Small groups come first, since the next place is often near; then large
+// ones, over 65,536 octets if need be, and small ones in the large one that has alignment, or in what is left.
+fn after_all_groups(recording: &[u8], start: usize) -> usize
+    ensures { λ r. ⌜ firstFrom r (now (recording .entry)) ≡ firstFrom start (now (recording .entry)) ⌝ }
+{
+    let near = after_groups(recording, start, 64, 4);
+    if octets_from(near, start) < 256 {
+        return near;
+    }
+    let far = after_groups(recording, near, 2048, 32);
+    after_groups(recording, far, 64, 64)
+}
+
+// The smallest place from a given one on where alignment stands, by the test of one place after the other, as far as 168 octets are left.
 fn first_from(recording: &[u8], from: usize) -> Found
     ensures { λ r. ⌜ r ≡ firstFrom from (now (recording .entry)) ⌝ }
 {
-    let all = recording.len();
-    for at in from..all {
+    let end = octets_from(recording.len(), 167);
+    for at in from..end {
         if is_aligned(&recording[at..]) {
             return Found::Place(at);
         }
@@ -123,5 +180,5 @@ pub fn search(recording: &[u8], start: usize) -> Found
     if (65_536 < all) | (octets_from(all, start) < 168) {
         return Found::Refused(Refusal::RecordingLength);
     }
-    first_from(recording, after_groups(recording, start))
+    first_from(recording, after_all_groups(recording, start))
 }

@@ -13,10 +13,10 @@ use Rattle.search.proofs.after_groups.Statement.{statement}
 use Rattle.search.proofs.after_groups.Tie as tie
 
 abbrev Inv-loop : tie.InvT-loop
-Inv-loop recording start all at₀ at = firstFrom at recording ≡ firstFrom start recording
+Inv-loop recording start places groups all at₀ k₀ at k = firstFrom at recording ≡ firstFrom start recording
 
 abbrev μ-loop : tie.MeasureT-loop
-μ-loop recording start all at₀ at = all - at
+μ-loop recording start places groups all at₀ k₀ at k = groups - k
 
 loop-holds : tie.Need-loop-holds Inv-loop μ-loop
 loop-holds c = refl
@@ -24,37 +24,47 @@ loop-holds c = refl
 octets-from-requires : tie.Need-octets-from-requires Inv-loop μ-loop
 octets-from-requires c κs = search needs
 
-sub-none-of-64 : tie.Need-sub-none-of-64 Inv-loop μ-loop
-sub-none-of-64 c = search needs
-
-part-none-of-64-start : tie.Need-part-none-of-64-start Inv-loop μ-loop
-part-none-of-64-start c = search needs
-
-part-none-of-64-end : tie.Need-part-none-of-64-end Inv-loop μ-loop
-part-none-of-64-end c = search needs
-
-none-of-64-requires : tie.Need-none-of-64-requires Inv-loop μ-loop
-none-of-64-requires c κs = simp (lent-part, length-drop) (omega arith)
+add-if1 : tie.Need-add-if1 Inv-loop μ-loop
+add-if1 c = omega arith
 
 returns : tie.Need-returns Inv-loop μ-loop
-returns c = c .before .before .before .before .before .loop .inv
+returns c = c .before .before .before .loop .inv
+
+sub-none-of-group : tie.Need-sub-none-of-group Inv-loop μ-loop
+sub-none-of-group c = search needs
+
+part-none-of-group-start : tie.Need-part-none-of-group-start Inv-loop μ-loop
+part-none-of-group-start c = search needs
+
+part-none-of-group-end : tie.Need-part-none-of-group-end Inv-loop μ-loop
+part-none-of-group-end c = search needs
+
+none-of-group-requires : tie.Need-none-of-group-requires Inv-loop μ-loop
+none-of-group-requires c κs = simp (lent-part, length-drop) (omega arith)
+
+returns-2 : tie.Need-returns-2 Inv-loop μ-loop
+returns-2 c = c .before .before .before .before .before .before .loop .inv
 
 add-at : tie.Need-add-at Inv-loop μ-loop
 add-at c = omega arith
+
+add-k : tie.Need-add-k Inv-loop μ-loop
+add-k c = omega arith
 
 loop-less : tie.Need-loop-less Inv-loop μ-loop
 loop-less c = omega arith
 
 loop-again : tie.Need-loop-again Inv-loop μ-loop
 loop-again c =
-    let s = c .before .before .before .before .before in
-    let recording = s .before .before .args .recording .now in
-    let none : noneOf 64 (drop (s .loop .at) recording) ≡ true =
-    rw (c .before .none-of-64 .ensures, lent-part (s .loop .at) recording) at (not-false (c .before .none-of-64 .result) (c .if2 .left)) in
-    passed-over 64 (s .loop .at) recording (omega arith) none ∙ s .loop .inv
+    let s = c .before .before .before .before .before .before in
+    let a = s .before .before .args in
+    let recording = a .recording .now in
+    let none : noneOf (a .places) (drop (s .loop .at) recording) ≡ true =
+    rw (c .before .none-of-group .ensures, lent-part (s .loop .at) recording) at (not-false (c .before .none-of-group .result) (c .if2 .left)) in
+    passed-over (a .places) (s .loop .at) recording (omega arith) none ∙ s .loop .inv
 
-returns-2 : tie.Need-returns-2 Inv-loop μ-loop
-returns-2 c = c .before .before .loop .inv
+returns-3 : tie.Need-returns-3 Inv-loop μ-loop
+returns-3 c = c .before .loop .inv
 
 pub after-groups-spec : {M : Type 1} → statement M
 after-groups-spec =
@@ -64,12 +74,15 @@ after-groups-spec =
     μ-loop
     loop-holds
     octets-from-requires
-    sub-none-of-64
-    part-none-of-64-start
-    part-none-of-64-end
-    none-of-64-requires
+    add-if1
     returns
+    sub-none-of-group
+    part-none-of-group-start
+    part-none-of-group-end
+    none-of-group-requires
+    returns-2
     add-at
+    add-k
     loop-less
     loop-again
-    returns-2)
+    returns-3)

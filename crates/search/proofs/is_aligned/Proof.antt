@@ -5,6 +5,7 @@ use Prim.Native.Nat.{_%_}
 use Rattle.bits.specs.Bits.{odd}
 use Rattle.search.specs.Finding.{spells, aligned}
 use Rattle.search.proofs.PlaceLaws.{too-short}
+use Rattle.search.proofs.PlaneLaws.{low-bit}
 use Rattle.search.proofs.WrongLaws.{even-is}
 use borrow.Author.Needs.{needs}
 use borrow.Author.Tests.{eq-eqb, not-true}
@@ -21,13 +22,18 @@ returns-2 : tie.Need-returns-2
 unfolding aligned odd
 returns-2 c =
     let w = c .before .wrong-word in
-    rw (not-true (spells 1 _) (sym (w .ensures) ∙ eq-eqb (w .result % 2) 1 (c .if2 .taken)))
+    let part = c .before .before .before .before .args .part .now in
+    let wrong = low-bit (w .result) (λ p. not (spells 1 p)) part (w .ensures) in
+    rw (not-true (spells 1 part) (sym wrong ∙ eq-eqb (w .result % 2) 1 (c .if2 .taken)))
 
 wrong-at-requires : tie.Need-wrong-at-requires
 wrong-at-requires c κs = search needs
 
 returns-3 : tie.Need-returns-3
-returns-3 c = even-is (c .wrong-at .result) ∙ ap not (c .wrong-at .ensures) ∙ Bool·not-not (aligned _)
+returns-3 c =
+    let part = c .before .before .before .before .before .args .part .now in
+    let wrong = low-bit (c .wrong-at .result) (λ p. not (aligned p)) part (c .wrong-at .ensures) in
+    even-is (c .wrong-at .result) ∙ ap not wrong ∙ Bool·not-not (aligned part)
 
 pub is-aligned-spec : {M : Type 1} → statement M
 is-aligned-spec = tie.close (tie.spec returns wrong-word-requires returns-2 wrong-at-requires returns-3)

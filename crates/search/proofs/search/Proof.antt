@@ -12,8 +12,8 @@ returns : tie.Need-returns
 unfolding searchOf badLength
 returns c = rw (← c .before .octets-from .ensures, c .if1 .taken)
 
-after-groups-requires : tie.Need-after-groups-requires
-after-groups-requires c κs = search needs
+after-all-groups-requires : tie.Need-after-all-groups-requires
+after-all-groups-requires c κs = search needs
 
 first-from-requires : tie.Need-first-from-requires
 first-from-requires c κs = search needs
@@ -23,9 +23,9 @@ unfolding searchOf badLength
 returns-2 c =
     let s = c .before .before in
     let n = s .before .octets-from .ensures in
-    rw (← n, s .if1 .left, n) (c .first-from .ensures ∙ c .before .after-groups .ensures)
+    rw (← n, s .if1 .left, n) (c .first-from .ensures ∙ c .before .after-all-groups .ensures)
 
 pub search-spec : {M : Type 1} → statement M
 search-spec =
     tie.close
-    (tie.spec octets-from-requires returns after-groups-requires first-from-requires returns-2)
+    (tie.spec octets-from-requires returns after-all-groups-requires first-from-requires returns-2)
