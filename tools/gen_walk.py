@@ -5,13 +5,15 @@
     step       takes a walk apart, calls the covered step, and puts the moved walk into its result beside the rest
     step_from  opens a walk, calls `step`, and hands back the plain parts: the covered step's own contract
 
+`step` stands for each step that the description names; the second word of the command says which.
+
 The borrow checker covers no function that holds such a struct, so each proof goes through the function's MIR statement by statement. A rule
 of that logic names an entry of its context by its position; this tool keeps the context as a list of labels and writes the positions. The
 bodies must stand as they do in the crate's source: another body is another MIR.
 
 Run it at the root of the repository, and again whenever the source or the description changed:
 
-    python3 tools/gen_walk.py tools/walk.desc && rt fmt
+    python3 tools/gen_walk.py tools/walk.desc step && python3 tools/gen_walk.py tools/walk.desc look && rt fmt
 """
 import re
 import sys
@@ -22,13 +24,14 @@ from collections import namedtuple
 D = {}
 exec(open(sys.argv[1], encoding="utf-8").read(), D)
 CRATE = D["crate"]
-CALLEE_CRATE, CALLEE = D["callee"]
-SPEC, DEFINED = D["definition"]
+STEP_NAME = sys.argv[2]
+FROM_NAME = f"{STEP_NAME}_from"
+(CALLEE_CRATE, CALLEE), (SPEC, DEFINED), LENT = D["steps"][STEP_NAME]
 STEPPED, STEPPED_FIELDS = D["stepped"]
 WALK, SLICE, MOVED = D["walk"]
 ONWARD, ONWARD_FIELDS = D["onward"]
 OWN_SPEC, OPENED_DEFINED, ONWARD_DEFINED = D["definitions"]
-PLAIN, LENT = D["plain"], D["lent"]
+PLAIN = D["plain"]
 HELD, CARRIED = ONWARD_FIELDS[0], ONWARD_FIELDS[1:]
 
 # A plain type as the proofs write it: what its values are, its row, the rules that make, type and spell one, its MIR type, its layout.
@@ -274,7 +277,7 @@ REST_ROWS = [t.row for t in PARAM.values()] + [f"MutSlice (named {i + 1}) κ-{p}
 REST_VALUES = [f"{t.val} the-{p}" for p, t in PARAM.items()] + [f"s the-{p}" for p in LENT]
 COUNT = len(LENT) + 1
 NAMES = {
-    "crate": CRATE, "callee": f"{CALLEE_CRATE}::{CALLEE}", "walk": WALK, "onward": ONWARD, "stepped": STEPPED, "u": "𝓤 H A",
+    "step": STEP_NAME, "from": dash(FROM_NAME), "step_contract": STEP_NAME.capitalize(), "crate": CRATE, "callee": f"{CALLEE_CRATE}::{CALLEE}", "walk": WALK, "onward": ONWARD, "stepped": STEPPED, "u": "𝓤 H A",
     "module": "module _ {M : Type 1} (𝓤 : URA M) (H : Heap 𝓤) (A : Atoms 𝓤) (W : Given 𝓤 H A) (mem : Memory → SProp 𝓤) (run : Routine → Fun 𝓤)",
     "walk_type": "(T.the-type α)", "walk_laws": "(T′.the-laws α)",
     "lifetimes": " ".join(["κ"] + [f"κ-{p}" for p in LENT]), "shares": " ".join(["q"] + [f"q-{p}" for p in LENT]),
@@ -342,12 +345,17 @@ def said(where, result):
     return " × ".join([f"({result.format(f'{DEFINED} {where} {ARGUMENTS}')})"] + [f"(z-{p} ≡ {left_in} {where} {ARGUMENTS})" for p, left_in in LENT.items()])
 
 
+def of_result(x):
+    """of what x shows, the clause about the result; one for each buffer follows it"""
+    return f"({x} .0)" if LENT else x
+
+
 # A function that a proof cites: its module, the name that it goes by in the proof, its key, and the name of its contract.
 Cited = namedtuple("Cited", "module name key contract")
 HERE = f"Rattle.{CRATE}.proofs."
 AT = Cited(f"Rattle.{CALLEE_CRATE}.proofs.{CALLEE}", "at", f"#{CALLEE_CRATE}·{dash(CALLEE)}", "At")
 OPEN = Cited(HERE + "open", "open", f"#{CRATE}·open", "Open")
-STEP = Cited(HERE + "step", "step", f"#{CRATE}·step", "Step")
+STEP = Cited(HERE + STEP_NAME, STEP_NAME, f"#{CRATE}·{STEP_NAME}", STEP_NAME.capitalize())
 
 
 def crate_of(name):
@@ -602,7 +610,7 @@ STEP_TEXT = """\
   Said r «lists» = «said»
 
   abbrev Post : Val → SProp 𝓤
-  Post = walkOf «u» step′.ended stayed (step′.clauses «u» mem run) .post ((κs, qs, tt, x, at), tt)
+  Post = walkOf «u» «step»′.ended stayed («step»′.clauses «u» mem run) .post ((κs, qs, tt, x, at), tt)
 
   abbrev Own : Fml
   Own = BW .own d (mach ∷ [])
@@ -615,7 +623,7 @@ STEP_TEXT = """\
   to = ((κs, qs, tt, «given», passed), tt)
 
   -- a walk is Copy: what it owns is had three times, for the callee, for the exit and inside the result
-  asked : Is BW d (mach ∷ []) → ent 𝓤 (onEntry «u» step′.signature κs qs x at) (sep 𝓤 (At «u» mem run .pre to) (⋆ «u» (‵ Own ∷ ‵ Own ∷ [])))
+  asked : Is BW d (mach ∷ []) → ent 𝓤 (onEntry «u» «step»′.signature κs qs x at) (sep 𝓤 (At «u» mem run .pre to) (⋆ «u» (‵ Own ∷ ‵ Own ∷ [])))
   asked g =
       qed W ((‵ (flft κ q) ⊛ tokens) ∷ ‵ (owns («rows») x at) ∷ []) ∵ move ! (1 ∷ []) $ fsplit ! $
       use1 W (‵ Own ⊛ ‵ Own) (LL.copy «walk_type» (T′.the-copy α) «u» W .twice d (mach ∷ [])) $ split ! $ use1 W (‵ Own ⊛ ‵ Own) (LL.copy «walk_type» (T′.the-copy α) «u» W .twice d (mach ∷ [])) $ split ! $
@@ -646,17 +654,17 @@ STEP_TEXT = """\
   exits : (r : «stepped») «list_binders» → Said r «lists» → «lengths»IsStepped r → ent 𝓤 (⋆ «u» ((‵ (flft κ q) ⊛ tokens) ∷ «finals»‵ Own ∷ ‵ Own ∷ [])) (Post (mach-on r))
   exits r «lists» e «same» is =
       qed W ((‵ (flft κ q) ⊛ tokens) ∷ «finals»‵ Own ∷ ‵ Own ∷ []) ∵
-      suffices ! _ (ends-at «u» step′.ended stayed (step′.clauses «u» mem run) W ((κs, qs, tt, x, at), tt) (mach-on r) (result r) «last_values» «last_facts») $ says ! (ap result (e .0)«others_said») $ frame ! $
+      suffices ! _ (ends-at «u» «step»′.ended stayed («step»′.clauses «u» mem run) W ((κs, qs, tt, x, at), tt) (mach-on r) (result r) «last_values» «last_facts») $ says ! («result_said») $ frame ! $
       -- what is had of the parameters, the last first
       «exits»
       -- the result, of the recording and of what came back
       «result»
 
   module _ (C : Calls 𝓤 H) (Λ : Loops 𝓤 H) (fm : FmC 𝓤 H (W .laws) C) (known : Triple 𝓤 (C «key») (At «u» mem run)) where
-    walk : Is BW d (mach ∷ []) → «buffer_facts»ent 𝓤 (onEntry «u» step′.signature κs qs x at) (WpFn 𝓤 H C Λ code.function (mach ∷ «rest_values») Post)
+    walk : Is BW d (mach ∷ []) → «buffer_facts»ent 𝓤 (onEntry «u» «step»′.signature κs qs x at) (WpFn 𝓤 H C Λ code.function (mach ∷ «rest_values») Post)
     walk g «buffers» =
         let wt : Holds (hasTy (T′.mir (named 0)) mach) × WT mach = LL.lawful «walk_type» «walk_laws» «u» W .typed d _ g .0 in
-        qed W (raw (onEntry «u» step′.signature κs qs x at) ∷ []) ∵ enter ! C Λ code.function (mach ∷ «rest_values») _ $
+        qed W (raw (onEntry «u» «step»′.signature κs qs x at) ∷ []) ∵ enter ! C Λ code.function (mach ∷ «rest_values») _ $
         «allocated»
 «steps»
 
@@ -745,7 +753,7 @@ def step_walk():
 def step_proof():
     lft = f"namedLft {COUNT} 0 tt κs"
     steps, count = step_walk()
-    return fill(STEP_TEXT, imports=imports("step", [AT]), stays=stays("step", [f"stay-none (λ κs. T.the-row ({lft})) yes"]), key=AT.key,
+    return fill(STEP_TEXT, imports=imports(STEP_NAME, [AT]), stays=stays(STEP_NAME, [f"stay-none (λ κs. T.the-row ({lft})) yes"]), key=AT.key,
                 walk_types=types_of([SLICE_TYPE] + [FIELD[f].mir for f in MOVED]), stepped_types=types_of([t.mir for t in FIELD.values()]),
                 said=said(at_walk("d"), "r ≡ {}"), given=HANDED, opened=OPENED, asked=step_asked(), rows=listed(["BW"] + REST_ROWS),
                 passed=nest([f"s (d .{SLICE}) ∷ []"] + [f"{FIELD[f].val} (d .{f}) ∷ []" for f in MOVED], "rest-vals"),
@@ -754,9 +762,9 @@ def step_proof():
                 next_facts=nest(["LL.owed «walk_type» «walk_laws» d _ g .0"] + [owed("r", "is", f) for f in MOVED]),
                 result_facts=nest(["is-walk g r is"] + [owed("r", "is", f) for f in CARRIED]),
                 last_values=nest(["tt"] * (1 + len(PLAIN)) + LISTS), last_facts=nest(["tt"] * (1 + len(PLAIN)) + [f"l-{p}" for p in LENT]),
-                others_said="".join(f", e .{i + 1}" for i in range(len(LENT))), exits=step_exits(), result=step_result(),
+                result_said=", ".join([f"ap result {of_result('e')}"] + [f"e .{i}" for i in range(1, COUNT)]), exits=step_exits(), result=step_result(),
                 allocated=allocated(count), steps=steps,
-                ending=ending("step", [AT], COUNT, [f"LL.vals (T.the-type ({lft})) (T′.the-laws ({lft}))"] + REST_VALS,
+                ending=ending(STEP_NAME, [AT], COUNT, [f"LL.vals (T.the-type ({lft})) (T′.the-laws ({lft}))"] + REST_VALS,
                               [f"LL.tells (T.the-type ({lft})) (T′.the-laws ({lft}))"] + REST_TELLS,
                               [goes_none(COUNT, f"λ κs. T.the-row ({lft})")] + REST_GOES, arguments_of(1, "known-at")))
 
@@ -779,7 +787,7 @@ STEP_FROM_TEXT = """\
   at = «at»
 
   abbrev Post : Val → SProp 𝓤
-  Post = walkOf «u» step-from′.ended stayed (step-from′.clauses «u» mem run) .post ((κs, qs, tt, x, at), tt)
+  Post = walkOf «u» «from»′.ended stayed («from»′.clauses «u» mem run) .post ((κs, qs, tt, x, at), tt)
 
   abbrev Own : Fml
   Own = ShrSlice (named 0) κ u8 .own x-in (s x-in ∷ [])
@@ -792,7 +800,7 @@ STEP_FROM_TEXT = """\
   to-open = (((κ, tt), (q, tt), tt, «opened», «opened_values»), tt)
 
   -- a `&[u8]` is Copy: what it owns is had twice, once for the exit and once inside the walk
-  goes-open : ent 𝓤 (onEntry «u» step-from′.signature κs qs x at) (sep 𝓤 (Open «u» mem run .pre to-open) (⋆ «u» ((tokens ⊛ ‵ others) ∷ ‵ Own ∷ [])))
+  goes-open : ent 𝓤 (onEntry «u» «from»′.signature κs qs x at) (sep 𝓤 (Open «u» mem run .pre to-open) (⋆ «u» ((tokens ⊛ ‵ others) ∷ ‵ Own ∷ [])))
   goes-open =
       qed W ((‵ (flft κ q) ⊛ tokens) ∷ ‵ (owns («all_rows») x at) ∷ []) ∵
       move ! (1 ∷ []) $ fsplit ! $ use1 W (‵ Own ⊛ ‵ Own) (shr-slice-copy «u» W (named 0) κ u8 .twice x-in (s x-in ∷ [])) $ split ! $
@@ -804,18 +812,18 @@ STEP_FROM_TEXT = """\
   open-said : (w : «walk») → ent 𝓤 (ensured «u» open′.ended (open′.clauses «u» mem run) (κ, tt) «opened» tt w) (fact 𝓤 (OpenSaid w))
   open-said w = exE 𝓤 _ (λ ws. snd∗ 𝓤 (sem «u» (lasts open′.ended (κ, tt) «opened» ws)) (fact 𝓤 (OpenSaid w)))
 
-  -- the call of `step`, at the walk w with the machine value u
-  abbrev to-step : «walk» → Val → Step «u» mem run .Ghost
+  -- the call of `«step»`, at the walk w with the machine value u
+  abbrev to-step : «walk» → Val → «step_contract» «u» mem run .Ghost
   to-step w u = ((κs, qs, tt, (w, rest), (u ∷ [], rest-vals)), tt)
 
-  goes-step : (w : «walk») (u : Val) → ent 𝓤 (⋆ «u» (‵ (BW .own w (u ∷ [])) ∷ token ∷ (tokens ⊛ ‵ others) ∷ [])) (Step «u» mem run .pre (to-step w u))
+  goes-step : (w : «walk») (u : Val) → ent 𝓤 (⋆ «u» (‵ (BW .own w (u ∷ [])) ∷ token ∷ (tokens ⊛ ‵ others) ∷ [])) («step_contract» «u» mem run .pre (to-step w u))
   goes-step w u =
       qed W (‵ (BW .own w (u ∷ [])) ∷ token ∷ (tokens ⊛ ‵ others) ∷ []) ∵ move ! (2 ∷ []) $ split ! $ move ! (2 ∷ 1 ∷ []) $ fjoin ! $ move ! (2 ∷ []) $ split ! $ move ! (1 ∷ []) $ drop ! $ move ! (0 ∷ 2 ∷ []) $ join ! $ join ! $ frame ! $ done !
 
   abbrev StepSaid : «walk» → «onward» → «list_types»Type 0
   StepSaid w o «lists» = «step_said»
 
-  -- the result, of what `step` returned
+  -- the result, of what `«step»` returned
   abbrev out : «onward» → «stepped»
   out o = «out»
 
@@ -836,15 +844,15 @@ STEP_FROM_TEXT = """\
   exits : (o : «onward») «list_binders» → Said (out o) «lists» → «lengths»Is S.the-row (out o) (mach-out (out o) ∷ []) → ent 𝓤 (⋆ «u» ((‵ (flft κ q) ⊛ tokens) ∷ «finals»‵ Own ∷ [])) (Post (mach-out (out o)))
   exits o «lists» e «same» is =
       qed W ((‵ (flft κ q) ⊛ tokens) ∷ «finals»‵ Own ∷ []) ∵
-      suffices ! _ (ends-at «u» step-from′.ended stayed (step-from′.clauses «u» mem run) W ((κs, qs, tt, x, at), tt) (mach-out (out o)) (out o) «last_values» «last_facts») $ says ! e $ frame ! $
+      suffices ! _ (ends-at «u» «from»′.ended stayed («from»′.clauses «u» mem run) W ((κs, qs, tt, x, at), tt) (mach-out (out o)) (out o) «last_values» «last_facts») $ says ! e $ frame ! $
       -- what is had of the parameters, the last first, and the result
       «exits»
       owned ! S.the-row (Is S.the-row) (LL.makes S.the-type S′.the-plain «u») (out o) _ is $ done !
 
-  module _ (C : Calls 𝓤 H) (Λ : Loops 𝓤 H) (fm : FmC 𝓤 H (W .laws) C) (known-open : Triple 𝓤 (C #«crate»·open) (Open «u» mem run)) (known-step : Triple 𝓤 (C #«crate»·step) (Step «u» mem run)) where
-    walk : Is (ShrSlice (named 0) κ u8) x-in (s x-in ∷ []) → «buffer_facts»ent 𝓤 (onEntry «u» step-from′.signature κs qs x at) (WpFn 𝓤 H C Λ code.function («values») Post)
+  module _ (C : Calls 𝓤 H) (Λ : Loops 𝓤 H) (fm : FmC 𝓤 H (W .laws) C) (known-open : Triple 𝓤 (C #«crate»·open) (Open «u» mem run)) (known-«step» : Triple 𝓤 (C #«crate»·«step») («step_contract» «u» mem run)) where
+    walk : Is (ShrSlice (named 0) κ u8) x-in (s x-in ∷ []) → «buffer_facts»ent 𝓤 (onEntry «u» «from»′.signature κs qs x at) (WpFn 𝓤 H C Λ code.function («values») Post)
     walk g «buffers» =
-        qed W (raw (onEntry «u» step-from′.signature κs qs x at) ∷ []) ∵ enter ! C Λ code.function («values») _ $
+        qed W (raw (onEntry «u» «from»′.signature κs qs x at) ∷ []) ∵ enter ! C Λ code.function («values») _ $
         «allocated»
 «steps»
 
@@ -874,9 +882,9 @@ def step_from_exits():
 
 
 def both_said():
-    """`step`'s word, at a walk that is what `open` says"""
+    """the step's word, at a walk that is what `open` says"""
     at_opened = [f"ap (λ (y : {WALK}). {of} {at_walk('y')} {ARGUMENTS}) e" for of in [DEFINED, *LENT.values()]]
-    return ", ".join([f"ap out (f .0) ∙ {at_opened[0]}"] + [f"f .{i} ∙ {at_opened[i]}" for i in range(1, COUNT)])
+    return ", ".join([f"ap out {of_result('f')} ∙ {at_opened[0]}"] + [f"f .{i} ∙ {at_opened[i]}" for i in range(1, COUNT)])
 
 
 def path_to(f):
@@ -896,7 +904,7 @@ def part_fact(f):
 
 def step_from_walk():
     """the statements, after the allocations; with the number of locals"""
-    # locals: the result, the slice, the walk's plain fields, the parameters, what `step` gives, the walk, two for each buffer, the result's fields
+    # locals: the result, the slice, the walk's plain fields, the parameters, what the step gives, the walk, two for each buffer, the result's fields
     own = {p: i + len(MOVED) + 2 for i, p in enumerate(REST)}
     came = len(MOVED) + len(REST) + 2
     made = came + 1
@@ -917,13 +925,13 @@ def step_from_walk():
     c.swap(1, "walk", "token")
     steps.append(f"land ! (from ! (stop !)) (init ! {c.local(made)} refl (LL.lawful (T.the-type αᵉ) (T′.the-laws αᵉ) «u» W .typed w _ isw .0)) $")
     steps += lend_on(c, own, buffers)
-    steps.append("-- the call of `step`")
-    steps.append(c.split("others kept", "others", "kept") + c.move("walk", "token", "others") + "use3 W (raw (Step «u» mem run .pre (to-step w u))) (goes-step w u) $")
+    steps.append("-- the call of `«step»`")
+    steps.append(c.split("others kept", "others", "kept") + c.move("walk", "token", "others") + "use3 W (raw («step_contract» «u» mem run .pre (to-step w u))) (goes-step w u) $")
     c.swap(3, "pre")
-    steps.append(f"calls-at ! fm (Step «u» mem run) known-step (to-step w u) {loads(c, [made] + [own[p] for p in PLAIN] + [buffers[p][1] for p in LENT])} (λ u′.")
+    steps.append(f"calls-at ! fm («step_contract» «u» mem run) known-«step» (to-step w u) {loads(c, [made] + [own[p] for p in PLAIN] + [buffers[p][1] for p in LENT])} (λ u′.")
     c.swap(1, "ensured", "result")
-    steps.append(returned("o", ONWARD, "BU", "(‵ (flft κ q) ⊛ tokens)", "u′", "step", "κs", "(w, rest)"))
-    steps.append(at_some_lists("step", "(w, rest)", 1, said_here))
+    steps.append(returned("o", ONWARD, "BU", "(‵ (flft κ q) ⊛ tokens)", "u′", STEP_NAME, "κs", "(w, rest)"))
+    steps.append(at_some_lists(STEP_NAME, "(w, rest)", 1, said_here))
     steps.append(f"split ! $ move ! (1 ∷ []) $ heard ! ({said_here}) (λ f. {last_lists(c, 1)}")
     steps.append(c.split("result", "tokens", "own") + c.move("own") + "peeks ! BU (Is BU) (shows «u» BU) o (u′ ∷ []) (λ is.")
     steps.append(landed(c, came, "(U.the-type αᵉ) (U′.the-laws αᵉ)", "(U.the-type α) (U′.the-laws α)", "(U′.mir erased)", "o"))
@@ -940,7 +948,7 @@ def step_from_walk():
 def step_from_proof():
     steps, count = step_from_walk()
     unsaid = len(MADE) + len(PLAIN)
-    return fill(STEP_FROM_TEXT, imports=imports("step_from", [OPEN, STEP]), stays=stays("step_from", [SLICE_STAYS] + MOVED_STAY),
+    return fill(STEP_FROM_TEXT, imports=imports(FROM_NAME, [OPEN, STEP]), stays=stays(FROM_NAME, [SLICE_STAYS] + MOVED_STAY),
                 x=nest(MADE, "rest"), x_type=product(["RefT (List ℕ)"] + [FIELD[f].denotes for f in MOVED], "Rest"),
                 at=nest(MADE_VALUES, "rest-vals"), at_type=product(["List Val"] * len(MADE), "RestVals"),
                 rest_rows=listed(REST_ROWS), all_rows=listed(SLICE_ROWS + REST_ROWS),
@@ -951,10 +959,10 @@ def step_from_proof():
                 part_facts=nest([part_fact(f) for f in FIELD]), exits=step_from_exits(),
                 last_values=nest(["tt"] * unsaid + LISTS), last_facts=nest(["tt"] * unsaid + [f"l-{p}" for p in LENT]),
                 values=listed(["s x-in"] + MOVED_VALUES + REST_VALUES), allocated=allocated(count), steps=steps,
-                ending=ending("step_from", [OPEN, STEP], COUNT, ["slice-vals"] + [FIELD[f].vals for f in MOVED] + REST_VALS,
+                ending=ending(FROM_NAME, [OPEN, STEP], COUNT, ["slice-vals"] + [FIELD[f].vals for f in MOVED] + REST_VALS,
                               ["shr-slice-tells (named 0) (κs .0) u8"] + [FIELD[f].tells for f in MOVED] + REST_TELLS,
                               [goes_slice(COUNT)] + [goes_none(COUNT, f"λ _. {FIELD[f].row}") for f in MOVED] + REST_GOES,
-                              arguments_of(len(MADE), "known-open known-step")))
+                              arguments_of(len(MADE), "known-open known-«step»")))
 
 
 # ---- the files
@@ -977,7 +985,7 @@ def trimmed(text):
     return "\n".join(out) + "\n"
 
 
-for function, proof in ("open", open_proof), ("step", step_proof), ("step_from", step_from_proof):
+for function, proof in ("open", open_proof), (STEP_NAME, step_proof), (FROM_NAME, step_from_proof):
     with open(f"crates/{CRATE}/proofs/{function}/Proof.antt", "w", encoding="utf-8") as file:
         file.write(f"-- `{CRATE}::{function}` meets its contract: a walk of its MIR, written by tools/gen_walk.py from {sys.argv[1]}.\n")
         file.write(trimmed(proof()))

@@ -115,14 +115,12 @@ fn count_after(answer: Answer, count: usize) -> usize
     }
 }
 
-// One step of the walk; what it hands out is not wanted here.
+// One step of the walk; the streams are not wanted here.
 fn step_on(recording: &[u8], place: usize, lost: bool, s: Reader) -> Stepped
     requires { ⌜ (stateInRange s ≡ true) × (length (now recording) ≤ 65536) × (place ≤ length (now recording)) ⌝ }
     ensures { λ r. ⌜ r ≡ steppedBy (answerHere (now (recording .entry)) place lost s) (now (recording .entry)) place lost s ⌝ }
 {
-    let mut voice = [0u8; 140];
-    let mut lsd = [0u8; 156];
-    walk::step_from(recording, place, lost, s, &mut voice, &mut lsd)
+    walk::look_from(recording, place, lost, s)
 }
 
 // The lines of a walk from a place on. A recording has more octets than a walk over it has steps.

@@ -11,7 +11,7 @@ use Rattle.frame.specs.Block.{fitting}
 use Rattle.reader.specs.State.{stateInRange}
 use Rattle.reader.specs.Signs.{signsOf}
 use Rattle.reader.specs.Refusals.{numberIn, rulingOf, refusalNumber}
-use Rattle.reader.specs.Step.{stepOf, voiceBy, lsdBy, outcomeBy, ruled, outcomeOf, voiceOf, lsdOf, Told}
+use Rattle.reader.specs.Step.{stepOf, voiceBy, lsdBy, outcomeBy, ruled, outcomeOf, lookOf, voiceOf, lsdOf, Told}
 use Rattle.reader.specs.declared.Reader.{Reader}
 use Rattle.reader.specs.declared.Refusal.{Refusal}
 use Rattle.reader.specs.declared.Refusal.the-variants.{BadState, LineLength, VoiceLength, DataLength}
@@ -100,3 +100,13 @@ pub read-settled : (s : Reader) (line voice lsd : List ℕ) (r q : Outcome) (v w
     → Told s line voice lsd r v d → Told s line voice lsd q w e → (r ≡ q) × (v ≡ w) × (d ≡ e)
 read-settled s line voice lsd r q v w d e x y =
     (x .outcome ∙ sym (y .outcome), x .heard ∙ sym (y .heard), x .given ∙ sym (y .given))
+
+-- a look says what a reading call says whose buffers fit
+pub look-read : (s : Reader) (line voice lsd : List ℕ) → length voice ≡ 140 → length lsd ≡ 156 → lookOf s line ≡ outcomeOf s line voice lsd
+unfolding lookOf outcomeOf
+look-read s line voice lsd v d = rw (v, d)
+
+pub look-taken : (s : Reader) (line : List ℕ) → stateInRange s ≡ true → length line ≡ 160
+    → (let p = stepOf s (signsOf line) in lookOf s line ≡ record { state = p .state; answer = Block (p .report) })
+unfolding lookOf
+look-taken s line r l = rw (takes s (length line) 140 156 (record { range = r; line-fits = l; voice-fits = refl; lsd-fits = refl }))

@@ -98,6 +98,10 @@ voiceOf s line voice lsd = voiceIn (ruled s line voice lsd) s line voice
 unfoldable pub lsdOf : Reader → List ℕ → List ℕ → List ℕ → List ℕ
 lsdOf s line voice lsd = lsdIn (ruled s line voice lsd) s line lsd
 
+-- a block's state and answer are the same for all buffers that fit, so they can be had without any
+unfoldable pub lookOf : Reader → List ℕ → Outcome
+lookOf s line = outcomeBy (rulingOf s (length line) 140 156) s line
+
 -- all that the contract of a reading call says of its result `r` and of the two buffers at exit
 pub record Told (s : Reader) (line voice lsd : List ℕ) (r : Outcome) (v d : List ℕ) : Type 0 where
   pub outcome : r ≡ outcomeOf s line voice lsd

@@ -11,7 +11,7 @@ ghost use Rattle.reader.specs.State.{dueOf, slotOf, stateInRange, freshI
 ghost use Rattle.reader.specs.Signs.{wordIn, signsOf};
 ghost use Rattle.reader.specs.Parts.{counted, modeBefore, verdictOf, standingOf, readingOf, dueRead, lastSix, compared, placeAfter, keptAfter};
 ghost use Rattle.reader.specs.Refusals.{numberOf, rulingOf};
-ghost use Rattle.reader.specs.Step.{reportOf, nextOf, stepOf, voiceBy, lsdBy, Told};
+ghost use Rattle.reader.specs.Step.{reportOf, nextOf, stepOf, voiceBy, lsdBy, lookOf, Told};
 use bas::Word;
 use modes::BlockNumber;
 use modes::Mode;
@@ -483,6 +483,28 @@ pub fn read(state: Reader, line: &[u8], voice: &mut [u8], lsd: &mut [u8]) -> Out
             let report = stepped.report;
             let standing = report.standing;
             hand(standing, mode, line, voice, lsd);
+            Outcome {
+                state: next,
+                answer: Answer::Block(report),
+            }
+        }
+    }
+}
+
+// One block without its streams: the state and the answer of a call whose buffers fit.
+pub fn look(state: Reader, line: &[u8]) -> Outcome
+    ensures { λ r. ⌜ r ≡ lookOf state (now (line .entry)) ⌝ }
+{
+    let ruling = ruling_of(state, line.len(), 140, 156);
+    match ruling {
+        Ruling::Refuse(why) => Outcome {
+            state: state,
+            answer: Answer::Refused(why),
+        },
+        Ruling::Take => {
+            let stepped = step(state, line);
+            let next = stepped.state;
+            let report = stepped.report;
             Outcome {
                 state: next,
                 answer: Answer::Block(report),

@@ -12,17 +12,15 @@ use Rattle.bits.proofs.Settled.{settled}
 use Rattle.reader.specs.State.{stateInRange}
 use Rattle.reader.specs.Step as reading
 use Rattle.reader.specs.declared.Reader.{Reader}
-use Rattle.reader.specs.declared.Report.{Report}
 use Rattle.reader.specs.declared.Outcome.{Outcome}
 use Rattle.reader.specs.declared.Answer as answer
-use Rattle.reader.specs.declared.Refusal as refusal
-use Rattle.reader.proofs.OutcomeLaws.{takes, told-taken}
+use Rattle.reader.proofs.OutcomeLaws.{takes, told-taken, look-taken}
 use Rattle.reader.proofs.RangeLaws.{step-in-range}
 use Rattle.search.specs.Finding.{searchOf}
 use Rattle.search.specs.declared.Found.{Found}
 use Rattle.search.proofs.PlaceLaws.{found-fits}
 use Rattle.recording.specs.Refusals.{rulingOf}
-use Rattle.recording.specs.Walk.{leftFrom, blockAt, readAt, blockRead, foundAgain, answerHere, isLost, answerBy, placeBy, readerBy, steppedBy, voiceBy, lsdBy, answerAt, stepAt, voiceAt, lsdAt, Ready}
+use Rattle.recording.specs.Walk.{leftFrom, blockAt, readAt, blockRead, foundAgain, answerHere, offBlock, isLost, answerBy, placeBy, readerBy, steppedBy, voiceBy, lsdBy, answerAt, stepAt, lookAt, voiceAt, lsdAt, Moved, Ready}
 use Rattle.recording.specs.declared.Refusal.{Refusal}
 use Rattle.recording.specs.declared.Refusal.the-variants.{BadState, VoiceLength, DataLength, PastTheEnd}
 use Rattle.recording.specs.declared.Ruling.{Ruling}
@@ -56,39 +54,47 @@ module _ (s : Reader) (recording : List ℕ) (place : ℕ) (voice lsd : List ℕ
       }) in
       rw lent at (told-taken s line voice lsd o v d fits t)
 
+module _ (s : Reader) (recording : List ℕ) (place : ℕ) where
+  -- and a look's
+  pub block-looked : (line : List ℕ) (o : Outcome) → place + 160 ≤ length recording → stateInRange s ≡ true → line ≡ blockAt recording place
+      → o ≡ reading.lookOf s line
+      → (let p = readAt s recording place in o ≡ record { state = p .state; answer = answer.the-variants.Block (p .report) })
+  block-looked line o inside range lent e =
+      e ∙ rw lent (look-taken s (blockAt recording place) range (block-length recording place inside))
+
   -- so the step answers it, as the reader did
-  pub block-stepped : (o : Outcome) (v d : List ℕ) (report : Report) (lost : Bool) → reading.Told s line voice lsd o v d
-      → o .answer ≡ answer.the-variants.Block report → lost ≡ isLost report
-      → (record { answer = Block report; reader = o .state; place = place + 160; lost = lost } ≡ steppedBy (blockRead s recording place) recording place false s)
-      × (v ≡ voiceBy (blockRead s recording place) recording place s voice)
-      × (d ≡ lsdBy (blockRead s recording place) recording place s lsd)
-  block-stepped o v d report lost t e l =
-      let b = block-told o v d t in
-      let p = readAt s recording place in
-      let both : answer.the-variants.Block report ≡ answer.the-variants.Block (p .report) = sym e ∙ ap (λ (q : Outcome). q .answer) (b .0) in
-      let same : report ≡ p .report = cc in
-      let next : o .state ≡ p .state = ap (λ (q : Outcome). q .state) (b .0) in
-      (rw (l, next, same), b .1, b .2)
+  pub block-stepped : (o : Outcome) (r : Stepped) (lost : Bool)
+      → (let p = readAt s recording place in o ≡ record { state = p .state; answer = answer.the-variants.Block (p .report) })
+      → Moved o (place + 160) r
+      → r ≡ steppedBy (blockRead s recording place) recording place lost s
+  block-stepped o r lost e m =
+      m ((readAt s recording place) .report) (ap (λ (q : Outcome). q .answer) e)
+      ∙ ap (λ (q : Outcome). record { answer = blockRead s recording place; reader = q .state; place = place + 160; lost = isLost ((readAt s recording place) .report) }) e
 
-  pub block-never-refused : (o : Outcome) (v d : List ℕ) (why : refusal.Refusal) → reading.Told s line voice lsd o v d
-      → o .answer ≡ answer.the-variants.Refused why → ⊥
-  block-never-refused o v d why t e =
-      let b = block-told o v d t in
-      let both : answer.the-variants.Refused why ≡ answer.the-variants.Block ((readAt s recording place) .report) =
-      sym e ∙ ap (λ (q : Outcome). q .answer) (b .0) in
-      let z : _≡_ {A = ℕ} 0 1 = cc in
-      omega arith
+  -- a step that is not after a lost block meets one where 160 octets are left
+  pub block-here : (lost : Bool) → offBlock recording place lost ≡ false
+      → (answerHere recording place lost s ≡ blockRead s recording place) × (160 ≤ leftFrom recording place)
+  block-here true e = let z : _≡_ {A = ℕ} 0 1 = cc in absurd (omega arith)
+  block-here false e = (rw e, ltb-false _ _ e)
 
--- ---- a search after a loss leaves the buffers
-pub voice-untouched : (f : Found) (left place : ℕ) (recording : List ℕ) (s : Reader) (voice : List ℕ)
-    → voice ≡ voiceBy (foundAgain f left) recording place s voice
-voice-untouched (Found.Place p) left place recording s voice = refl
-voice-untouched (Found.Refused r) left place recording s voice = refl
+-- ---- a step that meets no block leaves the buffers
+module _ (b : Answer) (left place : ℕ) (recording : List ℕ) (s : Reader) where
+  abbrev Off : Bool → Bool → Found → Answer
+  Off lost few f = cond lost (foundAgain f left) (cond few (End left) b)
 
-pub lsd-untouched : (f : Found) (left place : ℕ) (recording : List ℕ) (s : Reader) (lsd : List ℕ)
-    → lsd ≡ lsdBy (foundAgain f left) recording place s lsd
-lsd-untouched (Found.Place p) left place recording s lsd = refl
-lsd-untouched (Found.Refused r) left place recording s lsd = refl
+  pub voice-untouched : (lost few : Bool) (f : Found) (voice : List ℕ) → (lost || few) ≡ true
+      → voice ≡ voiceBy (Off lost few f) recording place s voice
+  voice-untouched true few (Found.Place p) voice e = refl
+  voice-untouched true few (Found.Refused r) voice e = refl
+  voice-untouched false true f voice e = refl
+  voice-untouched false false f voice e = let z : _≡_ {A = ℕ} 0 1 = cc in absurd (omega arith)
+
+  pub lsd-untouched : (lost few : Bool) (f : Found) (lsd : List ℕ) → (lost || few) ≡ true
+      → lsd ≡ lsdBy (Off lost few f) recording place s lsd
+  lsd-untouched true few (Found.Place p) lsd e = refl
+  lsd-untouched true few (Found.Refused r) lsd e = refl
+  lsd-untouched false true f lsd e = refl
+  lsd-untouched false false f lsd e = let z : _≡_ {A = ℕ} 0 1 = cc in absurd (omega arith)
 
 -- ---- by the ruling
 pub record Goes (all place : ℕ) (s : Reader) (voice lsd : ℕ) : Type 0 where
@@ -135,15 +141,20 @@ module _ (recording : List ℕ) (place : ℕ) (lost : Bool) (s : Reader) (voice 
   unfolding stepAt voiceAt lsdAt answerAt
   by-ruling q r v d e a b f = (rw (e, a), rw (e, b), rw (e, f))
 
-  -- where no row refuses, it is what the walk finds there
-  pub step-here : Goes (length recording) place s (length voice) (length lsd)
-      → stepAt recording place lost s voice lsd ≡ steppedBy (answerHere recording place lost s) recording place lost s
-  unfolding stepAt answerAt
-  step-here g = rw (rules-go (length recording) place s (length voice) (length lsd) g)
+  -- a look says the same where the buffers fit
+  pub look-step : length voice ≡ 140 → length lsd ≡ 156 → lookAt recording place lost s ≡ stepAt recording place lost s voice lsd
+  unfolding lookAt stepAt answerAt
+  look-step v d = rw (v, d)
 
   -- any two outcomes that it allows are equal
   pub step-settled : (r q : Stepped) (v w d e : List ℕ) → Left r v d → Left q w e → (r ≡ q) × (v ≡ w) × (d ≡ e)
   step-settled r q v w d e x y = (settled (x .0) (y .0), settled (x .1) (y .1), settled (x .2) (y .2))
+
+-- a look that no row refuses says what the walk finds there
+pub look-here : (recording : List ℕ) (place : ℕ) (lost : Bool) (s : Reader) → Goes (length recording) place s 140 156
+    → lookAt recording place lost s ≡ steppedBy (answerHere recording place lost s) recording place lost s
+unfolding lookAt
+look-here recording place lost s g = rw (rules-go (length recording) place s 140 156 g)
 
 -- ---- a step leaves the reader's state in range, and the walk in the recording
 module _ (recording : List ℕ) (place : ℕ) (s : Reader) where

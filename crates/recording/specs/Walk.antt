@@ -1,6 +1,6 @@
 -- Document 01, 'Finding alignment': one step of a walk, which keeps a recording, a place in it, and whether the block before was lost.
 use mathlib.Core.Path.{_≡_}
-use mathlib.Core.Bool.{Bool, true, false, cond}
+use mathlib.Core.Bool.{Bool, true, false, cond, _||_}
 use mathlib.Core.List.{List}
 use Prim.Native.Nat.{ℕ, _+_, _-_}
 use lib.Dec.{ltb}
@@ -11,6 +11,8 @@ use Rattle.reader.specs.Step as reading
 use Rattle.reader.specs.declared.Reader.{Reader}
 use Rattle.reader.specs.declared.Report.{Report}
 use Rattle.reader.specs.declared.Stepped as read
+use Rattle.reader.specs.declared.Outcome as told
+use Rattle.reader.specs.declared.Answer as heard
 use Rattle.reader.specs.declared.Standing.{Standing}
 use Rattle.reader.specs.declared.Standing.the-variants.{Waiting, Read, Lost}
 use Rattle.search.specs.Finding.{searchOf}
@@ -47,6 +49,10 @@ abbrev pub answerHere : List ℕ → ℕ → Bool → Reader → Answer
 answerHere recording place lost s =
     let left = leftFrom recording place in
     cond lost (foundAgain (searchOf recording place) left) (cond (ltb left 160) (End left) (blockRead s recording place))
+
+-- so a step meets no block after a lost one, and none at the end
+abbrev pub offBlock : List ℕ → ℕ → Bool → Bool
+offBlock recording place lost = lost || ltb (leftFrom recording place) 160
 
 abbrev pub answerBy : Ruling → List ℕ → ℕ → Bool → Reader → Answer
 answerBy (Refuse r) recording place lost s = Refused r
@@ -96,6 +102,12 @@ abbrev pub steppedBy : Answer → List ℕ → ℕ → Bool → Reader → Stepp
 steppedBy a recording place lost s =
     record { answer = a; reader = readerBy a recording place s; place = placeBy a place; lost = lostBy a lost }
 
+-- a block that the reader has answered leaves the walk at its end
+abbrev pub Moved : told.Outcome → ℕ → Stepped → Type 0
+Moved o end r =
+    (report : Report) → o .answer ≡ heard.the-variants.Block report
+    → r ≡ record { answer = Block report; reader = o .state; place = end; lost = isLost report }
+
 -- ---- the step: its answer, and what it leaves of the walk, the reader and the buffers
 unfoldable pub answerAt : List ℕ → ℕ → Bool → Reader → List ℕ → List ℕ → Answer
 answerAt recording place lost s voice lsd =
@@ -109,6 +121,11 @@ voiceAt recording place lost s voice lsd = voiceBy (answerAt recording place los
 
 unfoldable pub lsdAt : List ℕ → ℕ → Bool → Reader → List ℕ → List ℕ → List ℕ
 lsdAt recording place lost s voice lsd = lsdBy (answerAt recording place lost s voice lsd) recording place s lsd
+
+-- what a step leaves beside the buffers is the same for all buffers that fit, so it can be had without any
+unfoldable pub lookAt : List ℕ → ℕ → Bool → Reader → Stepped
+lookAt recording place lost s =
+    steppedBy (answerBy (rulingOf (length recording) place s 140 156) recording place lost s) recording place lost s
 
 -- a reader's state in range, and buffers of the right lengths
 pub record Ready (s : Reader) (voice lsd : ℕ) : Type 0 where

@@ -1,11 +1,12 @@
 // One step of a walk over a recording (document 01, 'Finding alignment' and 'Refusal numbers').
 ghost use mathlib.Core.Path.{_≡_};
-ghost use mathlib.Core.Bool.{true, false};
-ghost use Prim.Native.Nat.{_+_, _≤_};
+ghost use mathlib.Core.Bool.{true};
+ghost use Prim.Native.Nat.{_≤_};
 ghost use lib.ListN.{length};
+ghost use Rattle.reader.specs.State.{stateInRange};
 ghost use Rattle.search.specs.Finding.{searchOf};
 ghost use Rattle.recording.specs.Refusals.{numberOf, rulingOf};
-ghost use Rattle.recording.specs.Walk.{leftFrom, foundAgain, isLost, blockRead, answerHere, steppedBy, voiceBy, lsdBy, stepAt, voiceAt, lsdAt, Ready};
+ghost use Rattle.recording.specs.Walk.{leftFrom, foundAgain, offBlock, isLost, answerHere, steppedBy, voiceBy, lsdBy, stepAt, lookAt, voiceAt, lsdAt, Moved, Ready};
 use reader::Reader;
 use reader::Report;
 use search::Found;
@@ -80,15 +81,10 @@ fn is_lost(report: Report) -> bool
     }
 }
 
-// The block at a place where 160 octets are left, read.
-fn read_at(recording: &[u8], place: usize, s: Reader, voice: &mut [u8], lsd: &mut [u8]) -> Stepped
-    requires { ⌜ Ready s (length (now voice)) (length (now lsd)) ⌝ }
-    requires { ⌜ place + 160 ≤ length (now recording) ⌝ }
-    ensures { λ r. ⌜ (r ≡ steppedBy (blockRead s (now (recording .entry)) place) (now (recording .entry)) place false s)
-        × (now (voice .exit) ≡ voiceBy (blockRead s (now (recording .entry)) place) (now (recording .entry)) place s (now (voice .entry)))
-        × (now (lsd .exit) ≡ lsdBy (blockRead s (now (recording .entry)) place) (now (recording .entry)) place s (now (lsd .entry))) ⌝ }
+// The walk after a block that the reader has answered: it is at the block's end.
+fn moved_on(outcome: reader::Outcome, end: usize) -> Stepped
+    ensures { λ r. ⌜ Moved outcome end r ⌝ }
 {
-    let outcome = reader::read(s, &recording[place..place + 160], voice, lsd);
     let next = outcome.state;
     let answer = outcome.answer;
     match answer {
@@ -97,7 +93,7 @@ fn read_at(recording: &[u8], place: usize, s: Reader, voice: &mut [u8], lsd: &mu
             Stepped {
                 answer: Answer::Block(report),
                 reader: next,
-                place: place + 160,
+                place: end,
                 lost: lost,
             }
         }
@@ -105,7 +101,7 @@ fn read_at(recording: &[u8], place: usize, s: Reader, voice: &mut [u8], lsd: &mu
         reader::Answer::Refused(_why) => Stepped {
             answer: Answer::Refused(Refusal::BadState),
             reader: next,
-            place: place,
+            place: end,
             lost: false,
         },
     }
@@ -133,6 +129,30 @@ fn seek(recording: &[u8], place: usize, s: Reader) -> Stepped
     }
 }
 
+// Whether a step meets no block.
+fn off_block(recording: &[u8], place: usize, lost: bool) -> bool
+    requires { ⌜ place ≤ length (now recording) ⌝ }
+    ensures { λ r. ⌜ r ≡ offBlock (now (recording .entry)) place lost ⌝ }
+{
+    lost | (recording.len() - place < 160)
+}
+
+// A step that meets no block: after a lost block it searches, and else it is at the end.
+fn seek_or_end(recording: &[u8], place: usize, lost: bool, s: Reader) -> Stepped
+    requires { ⌜ (place ≤ length (now recording)) × (offBlock (now recording) place lost ≡ true) ⌝ }
+    ensures { λ r. ⌜ r ≡ steppedBy (answerHere (now (recording .entry)) place lost s) (now (recording .entry)) place lost s ⌝ }
+{
+    if lost {
+        return seek(recording, place, s);
+    }
+    Stepped {
+        answer: Answer::End(recording.len() - place),
+        reader: s,
+        place: place,
+        lost: lost,
+    }
+}
+
 // A step that no row refuses.
 fn go(
     recording: &[u8],
@@ -148,19 +168,25 @@ fn go(
         × (now (voice .exit) ≡ voiceBy (answerHere (now (recording .entry)) place lost s) (now (recording .entry)) place s (now (voice .entry)))
         × (now (lsd .exit) ≡ lsdBy (answerHere (now (recording .entry)) place lost s) (now (recording .entry)) place s (now (lsd .entry))) ⌝ }
 {
-    let left = recording.len() - place;
-    if lost {
-        return seek(recording, place, s);
+    if off_block(recording, place, lost) {
+        return seek_or_end(recording, place, lost, s);
     }
-    if left < 160 {
-        return Stepped {
-            answer: Answer::End(left),
-            reader: s,
-            place: place,
-            lost: lost,
-        };
+    let end = place + 160;
+    let outcome = reader::read(s, &recording[place..end], voice, lsd);
+    moved_on(outcome, end)
+}
+
+// The same without the block's streams.
+fn look_on(recording: &[u8], place: usize, lost: bool, s: Reader) -> Stepped
+    requires { ⌜ (stateInRange s ≡ true) × (place ≤ length (now recording)) ⌝ }
+    ensures { λ r. ⌜ r ≡ steppedBy (answerHere (now (recording .entry)) place lost s) (now (recording .entry)) place lost s ⌝ }
+{
+    if off_block(recording, place, lost) {
+        return seek_or_end(recording, place, lost, s);
     }
-    read_at(recording, place, s, voice, lsd)
+    let end = place + 160;
+    let outcome = reader::look(s, &recording[place..end]);
+    moved_on(outcome, end)
 }
 
 // One step of a walk that stands at a place of a recording, the block before it lost or not.
@@ -185,5 +211,21 @@ pub fn step(
             lost: lost,
         },
         Ruling::Go => go(recording, place, lost, s, voice, lsd),
+    }
+}
+
+// A step that hands out no voice and no data: the same answer, and the same state, place and loss.
+pub fn look(recording: &[u8], place: usize, lost: bool, s: Reader) -> Stepped
+    ensures { λ r. ⌜ r ≡ lookAt (now (recording .entry)) place lost s ⌝ }
+{
+    let ruling = ruling_of(recording.len(), place, s, 140, 156);
+    match ruling {
+        Ruling::Refuse(why) => Stepped {
+            answer: Answer::Refused(why),
+            reader: s,
+            place: place,
+            lost: lost,
+        },
+        Ruling::Go => look_on(recording, place, lost, s),
     }
 }

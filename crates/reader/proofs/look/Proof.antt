@@ -1,0 +1,37 @@
+-- `reader::look` meets its contract: by its ruling.
+use mathlib.Core.Path.{sym, _∙_}
+use Rattle.reader.specs.Step.{lookOf}
+use Rattle.reader.proofs.OutcomeLaws.{taken}
+use Rattle.reader.proofs.RangeLaws.{kept}
+use borrow.Author.Needs.{needs}
+use Rattle.reader.proofs.look.Statement.{statement}
+use Rattle.reader.proofs.look.Tie as tie
+
+ruling-of-requires : tie.Need-ruling-of-requires
+ruling-of-requires c κs = search needs
+
+enum-known-ruling : tie.Need-enum-known-ruling
+enum-known-ruling c = search needs
+
+enum-told : tie.Need-enum-told
+enum-told c = search needs
+
+step-requires : tie.Need-step-requires
+step-requires c κs =
+    let t = taken _ _ _ _ (sym (c .before .before .ruling-of .ensures) ∙ c .enum-told .given .1) in
+    let k = kept _ (t .range) in
+    (k .wrong-low, k .misses-low)
+
+returns : tie.Need-returns
+unfolding lookOf
+returns c = rw (← c .before .before .before .ruling-of .ensures, c .before .ruling .given .1)
+
+returns-2 : tie.Need-returns-2
+unfolding lookOf
+returns-2 c =
+    rw (← c .before .before .before .before .before .ruling-of .ensures, c .before .before .before .enum-told .given .1, c .before .before .step .ensures)
+
+pub look-spec : {M : Type 1} → statement M
+look-spec =
+    tie.close
+    (tie.spec ruling-of-requires enum-known-ruling enum-told step-requires returns returns-2)
