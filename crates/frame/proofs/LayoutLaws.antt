@@ -1,23 +1,25 @@
 -- The four numbers of a layout give the rule of owners; how many places of a frame's first n octets each owner has.
 use mathlib.Core.Path.{_≡_, refl, ap, ap₂, sym, _∙_}
-use mathlib.Core.Bool.{Bool, true, false, false≢true, cond, not, _&&_}
+use mathlib.Core.Bool.{Bool, true, false, false≢true, cond, not, _&&_, _||_}
+use mathlib.Core.Logic.{_⊎_, inl, inr}
 use mathlib.Core.List.{List, [], _∷_, _++_}
-use Prim.Native.Nat.{ℕ, zero, suc, _+_, _-_, _*_, _≤_, _<_, min}
+use Prim.Native.Nat.{ℕ, zero, suc, _+_, _-_, _*_, _%_, _≤_, _<_, min}
 use native.Mathlib.Nat.{zero-mul, suc-mul}
 use native.Mathlib.Omega.{arith}
 use lib.Dec.{eqb, leb, lit<}
 use borrow.Author.Tests.{leb-true, leb-false, eqb-true, le-leb, ne-eqb}
 use lib.ListN.{length, replicate, length-append, length-replicate}
 use Rattle.bits.proofs.Every.{and-left, and-right, everyBelow, below}
-use Rattle.modes.specs.Table.{lsdPlaces}
+use Rattle.modes.specs.Table.{octetBitsFrom, notListed, lsdTable, lsdPlaces}
 use Rattle.modes.specs.Owners.{within, holds, heldBy, ownerOf}
 use Rattle.modes.specs.declared.Mode.{Mode}
+use Rattle.modes.specs.declared.Places.{Places}
 use Rattle.modes.specs.declared.Owner.{Owner}
 use Rattle.modes.specs.declared.Owner.the-variants.{Service, Voice, Lsd, Nobody}
-use Rattle.modes.proofs.TableLaws.{audio-fit, lsd-fit, audio-shape, lsd-shape}
+use Rattle.modes.proofs.TableLaws.{beside-all, audio-fit, lsd-fit, audio-shape, lsd-shape}
 use Rattle.frame.specs.Streams.{rank, same, count}
 use Rattle.frame.specs.Block.{row, rows}
-use Rattle.frame.specs.Layout.{layoutOf, columnsBy, channelBy, rowBy, rowsBy, uncutAt, sc, Apart}
+use Rattle.frame.specs.Layout.{layoutOf, columnsBy, channelBy, rowBy, rowsBy, sc, inEights, Apart}
 use Rattle.frame.specs.declared.Layout.{Layout}
 use Rattle.frame.proofs.StreamLaws.{rank-inj, count-append, count-all, count-none}
 
@@ -129,6 +131,22 @@ unfolding rows rowsBy
 rows-are m zero = refl
 rows-are m (suc n) = ap₂ _++_ (rows-are m n) (row-is m (suc n) (omega arith))
 
+-- data's SC octets are whole eights, or it has no column: each row of the table
+abbrev inPlace : Places → Bool
+inPlace p = eqb (p .from) 8 || (eqb (p .first % 8) 1 && eqb (p .last % 8) 0)
+
+lsd-even : (m : Mode) → ((layoutOf m) .columns ≡ 0) ⊎ (inEights (layoutOf m) ≡ true)
+unfolding layoutOf inEights heldBy lsdPlaces lsdTable
+lsd-even m = go (eqb ((lsdPlaces (m .lsd)) .from) 8) refl (beside-all inPlace lsdTable (notListed (octetBitsFrom 8)) (m .lsd) refl refl)
+  where
+    p : Places
+    p = lsdPlaces (m .lsd)
+
+    go : (b : Bool) → eqb (p .from) 8 ≡ b → (b || (eqb (p .first % 8) 1 && eqb (p .last % 8) 0)) ≡ true
+        → ((layoutOf m) .columns ≡ 0) ⊎ (inEights (layoutOf m) ≡ true)
+    go true e t = let f : p .from ≡ 8 = eqb-true (p .from) 8 e in inl (omega (arith, f))
+    go false e t = inr t
+
 pub apart-of : (m : Mode) → Apart (layoutOf m)
 unfolding layoutOf heldBy
 apart-of m =
@@ -137,7 +155,19 @@ apart-of m =
       after = omega (arith, lsd-shape (m .lsd) .1);
       runs = lsd-fit (m .lsd) .runs;
       until = lsd-fit (m .lsd) .closes;
+      even = lsd-even m;
     }
+
+-- what it is to be in eights, and that data then ends a frame with an octet's last bit
+pub eights-at : (p : Layout) → inEights p ≡ true → (p .first % 8 ≡ 1) × (p .last % 8 ≡ 0)
+unfolding inEights
+eights-at p t =
+    let f = eqb (p .first % 8) 1 in
+    let l = eqb (p .last % 8) 0 in
+    (eqb-true (p .first % 8) 1 (and-left f l t), eqb-true (p .last % 8) 0 (and-right f l t))
+
+pub eights-through : (p : Layout) → Apart p → inEights p ≡ true → (80 * p .columns + sc p 80) % 8 ≡ 0
+eights-through p a t = omega (arith, eights-at p t .0, eights-at p t .1, a .runs, a .until)
 
 -- ---- how many of the places of octets 1 to n are each owner's
 pub no-voice : (p : Layout) (o : ℕ) → same Voice (channelBy p o) ≡ 0
@@ -199,27 +229,3 @@ pub length-rows : (p : Layout) (n : ℕ) → p .width + p .columns ≤ 7 → len
 unfolding rowsBy
 length-rows p zero h = refl
 length-rows p (suc n) h = simp (length-append, length-row p (suc n) h, length-rows p n h) (omega arith)
-
--- ---- eight octets that data's SC octets do not cut
-not-both : (a b : Bool) → not (a && b) ≡ true → a ≡ true → b ≡ false
-not-both true true h e = absurd (false≢true h)
-not-both true false h e = refl
-not-both false b h e = absurd (false≢true e)
-
--- data has the SC bit of the first of them, and so of each
-pub uncut-in : (p : Layout) (o k : ℕ) → uncutAt p o ≡ true → o + 1 ≤ p .last → k < 8 → o + k + 1 ≤ p .last
-unfolding uncutAt
-uncut-in p o k u l hk =
-    let begins = not (leb (o + 2) (p .first) && leb (p .first) (o + 8)) in
-    let ends : leb (p .last) (o + 7) ≡ false =
-    not-both (leb (o + 1) (p .last)) (leb (p .last) (o + 7)) (and-right begins _ u) (le-leb (o + 1) (p .last) l) in
-    omega (arith, leb-false (p .last) (o + 7) ends)
-
--- it has not that of the first, which comes before its own
-pub uncut-before : (p : Layout) (o k : ℕ) → uncutAt p o ≡ true → o + 1 < p .first → k < 8 → o + k + 1 < p .first
-unfolding uncutAt
-uncut-before p o k u f hk =
-    let ends = not (leb (o + 1) (p .last) && leb (p .last) (o + 7)) in
-    let begins : leb (p .first) (o + 8) ≡ false =
-    not-both (leb (o + 2) (p .first)) (leb (p .first) (o + 8)) (and-left _ ends u) (le-leb (o + 2) (p .first) (omega arith)) in
-    omega (arith, leb-false (p .first) (o + 8) begins)

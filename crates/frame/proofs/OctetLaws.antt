@@ -3,12 +3,12 @@ use mathlib.Core.Path.{_≡_, refl, ap, ap₂, _∙_}
 use mathlib.Core.Bool.{Bool, true, false, cond}
 use mathlib.Core.List.{List, [], _∷_, _++_}
 use Prim.Native.Nat.{ℕ, zero, suc, _+_, _-_, _*_, _^_, _≤_, _<_, min}
-use native.Mathlib.Nat.{zero-add, add-zero, pow-suc, pow-succ', one-mul, mul-one, mul-assoc, mul-le-mul, suc-mul}
+use native.Mathlib.Nat.{zero-add, add-zero, pow-suc, pow-succ', one-mul, mul-one, mul-assoc}
 use native.Mathlib.Numerals.{add-one}
 use native.Mathlib.Omega.{arith}
 use borrow.Author.Tests.{leb-true, le-leb, lt-leb}
 use lib.Dec.{leb}
-use lib.Pow.{pow-pos, pow-mono}
+use lib.Pow.{pow-pos}
 use lib.ListN.{getD, drop, replicate}
 use lib.Seq.{drop-nil}
 use Rattle.bits.specs.Bits.{digit, number}
@@ -32,11 +32,6 @@ ones (suc n) = rw (length-nexts n [], ones n, pow-succ' 2 n, one-mul) (omega (ar
 pub number-one : (l : List Bool) → number (nexts 1 l) ≡ digit (getD l 0 true)
 unfolding number nexts
 number-one l = rw (add-zero, mul-one)
-
-pub nexts-lt : (n : ℕ) (l : List Bool) → n ≤ 8 → number (nexts n l) < 256
-nexts-lt n l h =
-    let m : 2 ^ n ≤ 2 ^ 8 = pow-mono h in
-    omega (arith, rw length-nexts at (number-bound (nexts n l)))
 
 fill-columns : (p : Layout) (s : Streams) → s Nobody ≡ []
     → fill (columnsBy p) s ≡ nexts (p .width) (s Voice) ++ nexts (7 - (p .width + p .columns)) [] ++ nexts (p .columns) (s Lsd)
@@ -73,10 +68,6 @@ octet p o s e =
 -- it is an octet
 pub octet-lt : (p : Layout) (o : ℕ) (s : Streams) → p .width + p .columns ≤ 7 → number (fill (rowBy p o) s) < 256
 octet-lt p o s h = rw (length-fill, length-row p o h) at (number-bound (fill (rowBy p o) s))
-
--- the bits of the octets before octet o + 1, and its own
-pub before : (o w : ℕ) → o < 80 → w ≤ 7 → o * w + w ≤ 560
-before o w ho hw = rw suc-mul at (mul-le-mul ho hw)
 
 -- octet o + 1 of a frame
 pub octet-at : (p : Layout) (o : ℕ) (s : Streams) → s Nobody ≡ [] → Apart p

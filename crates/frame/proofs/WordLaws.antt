@@ -1,18 +1,21 @@
--- Eight octets as one number: what it is to add and to multiply it, how an octet is had from it, and that the code's sum is that number.
-use mathlib.Core.Path.{_≡_, refl, ap, sym, _∙_}
-use mathlib.Core.Bool.{true, false}
+-- Eight octets as one number: what it is to add and to multiply it, how an octet is had from it, and fields of a stream in eight octets.
+use mathlib.Core.Path.{_≡_, ap, _∙_}
+use mathlib.Core.Bool.{Bool}
 use mathlib.Core.List.{List}
 use Prim.Native.Nat.{ℕ, zero, suc, _+_, _-_, _*_, _/_, _%_, _^_, _≤_, _<_}
-use native.Mathlib.Nat.{add-mul, mul-assoc, mul-comm}
+use native.Mathlib.Nat.{zero-mul, zero-add, add-mul, mul-assoc, mul-comm, lt-of-lt-of-le}
 use native.Mathlib.Omega.{arith}
-use lib.Pow.{pow-add, shl-exact, ones-lt}
-use lib.Seq.{ext-getD}
+use lib.Arith.{digits-lt}
+use lib.Dec.{lit<}
+use lib.ListN.{drop}
+use lib.Pow.{pow-add, pow-mono, shl-exact, ones-lt}
+use Rattle.bits.specs.Bits.{number}
+use Rattle.bits.proofs.BitLaws.{number-bound}
 use Rattle.bits.proofs.ShiftLaws.{one-shl}
-use Rattle.bits.proofs.Table.{table, entry}
-use Rattle.frame.specs.Eight.{eights, fieldOf, tailOf, octetOf, eightOf}
-use Rattle.frame.specs.declared.Layout.{Layout}
-use Rattle.frame.specs.declared.Eight.{Eight}
-use Rattle.frame.proofs.EightLaws.{field-none, field-small, tail-small, eight-lt}
+use Rattle.frame.specs.Streams.{nexts}
+use Rattle.frame.specs.Eight.{eights, fieldOf, fieldsOf, raisedBy}
+use Rattle.frame.proofs.StreamLaws.{length-nexts}
+use Rattle.frame.proofs.EightLaws.{field-nexts, field-small}
 
 -- ---- eight octets as one number
 more : (x y u : ℕ) → (x * 256 + y) * u ≡ x * u * 256 + y * u
@@ -37,9 +40,10 @@ pub eights-same : (x : ℕ) → x * 72340172838076673 ≡ eights (λ k. x)
 unfolding eights
 eights-same x = omega arith
 
-pub eights-ap : (f g : ℕ → ℕ) → ((k : ℕ) → f k ≡ g k) → eights f ≡ eights g
+pub eights-each : (f g : ℕ → ℕ) → ((k : ℕ) → k < 8 → f k ≡ g k) → eights f ≡ eights g
 unfolding eights
-eights-ap f g h = rw (h 0, h 1, h 2, h 3, h 4, h 5, h 6, h 7)
+eights-each f g h =
+    rw (h 0 (lit< tt), h 1 (lit< tt), h 2 (lit< tt), h 3 (lit< tt), h 4 (lit< tt), h 5 (lit< tt), h 6 (lit< tt), h 7 (lit< tt))
 
 pub eights-lt : (f : ℕ → ℕ) → ((k : ℕ) → f k < 256) → eights f < 2 ^ 64
 unfolding eights
@@ -57,80 +61,46 @@ octet-of f h (suc (suc (suc (suc (suc (suc zero)))))) l = omega (arith, h 0, h 1
 octet-of f h (suc (suc (suc (suc (suc (suc (suc zero))))))) l = omega (arith, h 0, h 1, h 2, h 3, h 4, h 5, h 6, h 7)
 octet-of f h (suc (suc (suc (suc (suc (suc (suc (suc k)))))))) l = absurd (omega arith)
 
--- ---- the octets of a number of 64 bits
-abbrev pub octetIn : ℕ → ℕ → ℕ
-octetIn x k = x / 2 ^ (8 * (7 - k)) % 256
+-- the first n of the eight
+abbrev pub firsts : (ℕ → ℕ) → ℕ → ℕ
+firsts f zero = 0
+firsts f (suc n) = firsts f n * 256 + f n
 
-abbrev pub octetsIn : ℕ → List ℕ
-octetsIn x = table 8 (octetIn x)
+pub firsts-all : (f : ℕ → ℕ) → firsts f 8 ≡ eights f
+unfolding eights
+firsts-all f = omega arith
 
-pub octets-in : (p : Layout) (e : Eight) → p .width + p .columns ≤ 7 → octetsIn (eights (octetOf p e)) ≡ eightOf p e
-unfolding eightOf
-octets-in p e h =
-    let x : ℕ = eights (octetOf p e) in
-    ext-getD 0 (octetsIn x) (table 8 (octetOf p e)) refl
-    (λ k l. entry 8 (octetIn x) 0 k l ∙ octet-of (octetOf p e) (λ j. eight-lt p e j h) k l ∙ sym (entry 8 (octetOf p e) 0 k l))
+-- ---- fields of a stream in eight octets, so many bits up and the same bits below
+pub lane-is : (n : ℕ) (l : List Bool) → eights (fieldOf (number (nexts (8 * n) l)) n) ≡ eights (fieldsOf n l)
+unfolding fieldsOf
+lane-is n l = eights-each (fieldOf (number (nexts (8 * n) l)) n) (fieldsOf n l) (λ k h. field-nexts n k l h)
 
--- ---- the last bits of the eight octets
+pub raised : (n up below : ℕ) (l : List Bool)
+    → eights (fieldsOf n l) * 2 ^ up + eights (λ k. below) ≡ raisedBy n up below l
+unfolding raisedBy
+raised n up below l =
+    ap (λ (x : ℕ). x + eights (λ k. below)) (eights-times (fieldsOf n l) (2 ^ up)) ∙ eights-plus (λ k. fieldsOf n l k * 2 ^ up) (λ k. below)
+
+pub raised-none : (n up below : ℕ) (l : List Bool) → n ≡ 0 → eights (λ k. below) ≡ raisedBy n up below l
+unfolding raisedBy fieldsOf nexts number
+raised-none n up below l z = eights-each (λ k. below) (λ j. fieldsOf n l j * 2 ^ up + below) each
+  where
+    each : (j : ℕ) → j < 8 → below ≡ fieldsOf n l j * 2 ^ up + below
+    each j h = rw (z, zero-mul, zero-add)
+
+pub raised-lt : (n up below : ℕ) (l : List Bool) → n + up ≤ 8 → below < 2 ^ up → raisedBy n up below l < 2 ^ 64
+unfolding raisedBy fieldsOf
+raised-lt n up below l h hb = eights-lt (λ j. fieldsOf n l j * 2 ^ up + below) each
+  where
+    each : (j : ℕ) → fieldsOf n l j * 2 ^ up + below < 256
+    each j =
+        let field : fieldsOf n l j < 2 ^ n = rw length-nexts at (number-bound (nexts n (drop (j * n) l))) in
+        let all : 2 ^ n * 2 ^ up ≤ 2 ^ 8 = rw (← pow-add 2 n up) (pow-mono {i = n + up} {j = 8} h) in
+        lt-of-lt-of-le (digits-lt field hb) all
+
 pub fields-lt : (x n : ℕ) → n ≤ 8 → eights (fieldOf x n) < 2 ^ 64
 fields-lt x n h = eights-lt (fieldOf x n) (λ k. field-small x n k h)
 
-pub tails-lt : (c : ℕ) (e : Eight) → c ≤ 7 → eights (tailOf c e) < 2 ^ 64
-tails-lt c e h = eights-lt (tailOf c e) (λ k. tail-small c e k h)
-
-pub tails-owned : (c : ℕ) (e : Eight) → e .owned ≡ true → eights (fieldOf (e .lsd) (c + 1)) ≡ eights (tailOf c e)
-unfolding tailOf
-tails-owned c e t = eights-ap (fieldOf (e .lsd) (c + 1)) (tailOf c e) each
-  where
-    each : (k : ℕ) → fieldOf (e .lsd) (c + 1) k ≡ tailOf c e k
-    each k = rw t
-
-pub tails-free : (c : ℕ) (e : Eight) → e .owned ≡ false
-    → eights (fieldOf (e .lsd) c) * 2 + eights (fieldOf (e .channel) 1) ≡ eights (tailOf c e)
-unfolding tailOf
-tails-free c e t =
-    ap (λ (x : ℕ). x + eights (fieldOf (e .channel) 1)) (eights-times (fieldOf (e .lsd) c) 2)
-    ∙ eights-plus (λ k. fieldOf (e .lsd) c k * 2) (fieldOf (e .channel) 1)
-    ∙ eights-ap (λ k. fieldOf (e .lsd) c k * 2 + fieldOf (e .channel) 1 k) (tailOf c e) each
-  where
-    each : (k : ℕ) → fieldOf (e .lsd) c k * 2 + fieldOf (e .channel) 1 k ≡ tailOf c e k
-    each k = rw t
-
-pub tails-none : (c : ℕ) (e : Eight) → e .owned ≡ false → c ≡ 0 → eights (fieldOf (e .channel) 1) ≡ eights (tailOf c e)
-tails-none c e t z =
-    let none : eights (fieldOf (e .lsd) c) ≡ 0 = ap (λ (n : ℕ). eights (fieldOf (e .lsd) n)) z ∙ eights-ap (fieldOf (e .lsd) 0) (λ k. 0) (field-none (e .lsd)) ∙ sym (eights-same 0) in
-    omega (arith, none, tails-free c e t)
-
--- ---- and all of them
-pub ones-shl : (g t : ℕ) → g ≤ 7 → t ≤ 8 → (1 * 2 ^ g % 2 ^ 64 - 1) * 2 ^ t % 2 ^ 64 ≡ (2 ^ g - 1) * 2 ^ t
+-- ---- ones so many bits up
+pub ones-shl : (g t : ℕ) → g ≤ 8 → t ≤ 8 → (1 * 2 ^ g % 2 ^ 64 - 1) * 2 ^ t % 2 ^ 64 ≡ (2 ^ g - 1) * 2 ^ t
 ones-shl g t hg ht = rw (one-shl g (omega arith)) (shl-exact {a = 2 ^ g - 1} g t 64 (ones-lt g) (omega arith))
-
-pub word-is : (p : Layout) (e : Eight) → p .width + p .columns ≤ 7
-    → eights (fieldOf (e .voice) (p .width)) * 2 ^ (8 - p .width)
-    + (2 ^ (7 - (p .width + p .columns)) - 1) * 2 ^ (p .columns + 1) * 72340172838076673
-    + eights (tailOf (p .columns) e)
-    ≡ eights (octetOf p e)
-unfolding octetOf
-word-is p e h =
-    rw (eights-times (fieldOf (e .voice) w) (2 ^ (8 - w)), eights-same ones, eights-plus (λ k. fieldOf (e .voice) w k * 2 ^ (8 - w)) (λ k. ones), eights-plus (λ k. fieldOf (e .voice) w k * 2 ^ (8 - w) + ones) (tailOf c e))
-    (eights-ap (λ k. fieldOf (e .voice) w k * 2 ^ (8 - w) + ones + tailOf c e k) (octetOf p e) each)
-  where
-    w : ℕ
-    w = p .width
-
-    c : ℕ
-    c = p .columns
-
-    g : ℕ
-    g = 7 - (w + c)
-
-    ones : ℕ
-    ones = (2 ^ g - 1) * 2 ^ (c + 1)
-
-    each : (k : ℕ) → fieldOf (e .voice) w k * 2 ^ (8 - w) + ones + tailOf c e k ≡ octetOf p e k
-    each k =
-        let up : 8 - w ≡ g + (c + 1) = omega arith in
-        rw (up, pow-add 2 g (c + 1), ← mul-assoc (fieldOf (e .voice) w k) (2 ^ g) (2 ^ (c + 1)), add-mul (fieldOf (e .voice) w k * 2 ^ g) (2 ^ g - 1) (2 ^ (c + 1)))
-
-pub word-lt : (p : Layout) (e : Eight) → p .width + p .columns ≤ 7 → eights (octetOf p e) < 2 ^ 64
-word-lt p e h = eights-lt (octetOf p e) (λ k. eight-lt p e k h)

@@ -8,8 +8,8 @@ use native.Mathlib.Nat.{add-zero, eq-or-lt-of-le, le-of-suc-le-suc}
 use native.Mathlib.Numerals.{add-one}
 use native.Mathlib.Omega.{arith}
 use borrow.Rule.Slice.PartMut.{putMid}
-use lib.ListN.{length, getD, List·getD-append, take, drop, set, length-append, drop-of-length-le}
-use lib.Seq.{length-take-le, drop-nil, drop-drop, take-add, drop-at, take-at, getD-append-add, paste, paste-suc}
+use lib.ListN.{length, getD, List·getD-append, take, drop, set, length-set, length-append, drop-of-length-le}
+use lib.Seq.{getD-set-same, getD-set-other, length-take-le, drop-nil, drop-drop, take-add, drop-at, take-at, getD-append-add, paste, paste-suc}
 use Rattle.bits.specs.Bits.{number, octets}
 use Rattle.bits.proofs.PackLaws.{length-octets, octets-append, octets-one}
 use Rattle.modes.specs.declared.Owner.{Owner}
@@ -101,7 +101,33 @@ pub one-over : (d : List ℕ) (at : ℕ) (s : List ℕ) (k x : ℕ) → at + k <
     → set (paste d at s k) (at + k) x ≡ paste d at s (k + 1)
 one-over d at s k x hd hs e = rw (e, add-one) (paste-suc d at s k 0 hd hs)
 
-pub run-over : (fs d : List ℕ) (o n : ℕ) → o ≤ length fs → paste (take o fs ++ drop o d) o (drop o fs) n ≡ take (o + n) fs ++ drop (o + n) d
+run-over : (fs d : List ℕ) (o n : ℕ) → o ≤ length fs → paste (take o fs ++ drop o d) o (drop o fs) n ≡ take (o + n) fs ++ drop (o + n) d
 run-over fs d o n h =
     let l : length (take o fs) ≡ o = length-take-le o fs h in
     rw (take-at (take o fs) (drop o d) o l, ← take-add o n fs, ← drop-drop n o (take o fs ++ drop o d), drop-at (take o fs) (drop o d) o l, drop-drop n o d)
+
+-- eight octets more of a frame that is written from its first one on
+pub eight-over : (fs d es : List ℕ) (k : ℕ) → 8 * k ≤ length fs → take 8 es ≡ take 8 (drop (8 * k) fs)
+    → paste (take (8 * k) fs ++ drop (8 * k) d) (8 * k) es 8 ≡ take (8 * (k + 1)) fs ++ drop (8 * (k + 1)) d
+eight-over fs d es k h e =
+    let was : List ℕ = take (8 * k) fs ++ drop (8 * k) d in
+    let next : 8 * k + 8 ≡ 8 * (k + 1) = omega arith in
+    ap (λ (l : List ℕ). take (8 * k) was ++ l ++ drop (8 * k + 8) was) e
+    ∙ run-over fs d (8 * k) 8 h
+    ∙ ap (λ (n : ℕ). take n fs ++ drop n d) next
+
+-- ---- numbers put into a list by a rule, from one place on: one more
+pub one-laid : (l : List ℕ) (from k x : ℕ) (rule : ℕ → ℕ) → k < length l → x ≡ rule k
+    → ((j : ℕ) → from ≤ j → j < k → getD l j 0 ≡ rule j) → (j : ℕ) → from ≤ j → j < k + 1 → getD (set l k x) j 0 ≡ rule j
+one-laid l from k x rule hk e laid j hf hj =
+    let le : j ≤ k = omega arith in
+    ⊎-elim
+    (λ same. ap (λ (i : ℕ). getD (set l k x) i 0) same ∙ getD-set-same l k x 0 hk ∙ e ∙ ap rule (sym same))
+    (λ less. getD-set-other l k j x 0 (λ same. omega arith) ∙ laid j hf less)
+    (eq-or-lt-of-le le)
+
+-- the first two of a list set
+pub two-set : (l : List ℕ) (x y : ℕ) (rule : ℕ → ℕ) → 2 ≤ length l → x ≡ rule 0 → y ≡ rule 1 → (k : ℕ) → k < 2 → getD (set (set l 0 x) 1 y) k 0 ≡ rule k
+two-set l x y rule h ex ey zero hk = getD-set-other (set l 0 x) 1 0 y 0 (λ e. omega arith) ∙ getD-set-same l 0 x 0 (omega arith) ∙ ex
+two-set l x y rule h ex ey (suc zero) hk = getD-set-same (set l 0 x) 1 y 0 (rw length-set (omega arith)) ∙ ey
+two-set l x y rule h ex ey (suc (suc k)) hk = absurd (omega arith)

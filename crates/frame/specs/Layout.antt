@@ -1,10 +1,11 @@
 -- How the code sees the places of a mode: by four numbers. Of the public contracts only that of `layout_of`, which the sorter shares, speaks of it;
 -- proofs/LayoutLaws shows that it is the rule of owners.
 use mathlib.Core.Path.{_≡_}
-use mathlib.Core.Bool.{Bool, cond, not, _&&_}
+use mathlib.Core.Bool.{Bool, true, cond, _&&_}
+use mathlib.Core.Logic.{_⊎_}
 use mathlib.Core.List.{List, [], _∷_, _++_}
 use Prim.Native.Nat.{ℕ, zero, suc, _+_, _-_, _%_, _≤_, _<_, min}
-use lib.Dec.{leb}
+use lib.Dec.{eqb, leb}
 use lib.ListN.{length, drop, replicate}
 use Rattle.bits.specs.Bits.{lowBits, bitsOf, octets}
 use Rattle.modes.specs.Owners.{heldBy}
@@ -39,9 +40,9 @@ rowsBy p (suc n) = rowsBy p n ++ rowBy p (suc n)
 abbrev pub sc : Layout → ℕ → ℕ
 sc p n = min n (p .last) + 1 - p .first
 
--- data's SC octets neither begin nor end inside the eight octets o + 1 to o + 8: it has the SC bit of all of them or of none
-unfoldable pub uncutAt : Layout → ℕ → Bool
-uncutAt p o = not (leb (o + 2) (p .first) && leb (p .first) (o + 8)) && not (leb (o + 1) (p .last) && leb (p .last) (o + 7))
+-- data's SC octets are whole eights of a frame
+unfoldable pub inEights : Layout → Bool
+inEights p = eqb (p .first % 8) 1 && eqb (p .last % 8) 0
 
 -- the four numbers lie in a frame
 pub record Apart (p : Layout) : Type 0 where
@@ -49,6 +50,8 @@ pub record Apart (p : Layout) : Type 0 where
   pub after : 16 < p .first
   pub runs : p .first ≤ p .last + 1
   pub until : p .last ≤ 80
+  -- else they are all that data has
+  pub even : (p .columns ≡ 0) ⊎ (inEights p ≡ true)
 
 -- what a frame is filled from: its sixteen service bits, voice from its bit v on, ones where it is muted, and data from its bit d on
 abbrev pub frameSources : ℕ → Bool → List ℕ → ℕ → List ℕ → ℕ → Streams
@@ -57,7 +60,8 @@ frameSources service mute voice v lsd d = streams (lowBits 16 service) (drop v (
 unfoldable pub frameBy : Layout → Streams → List ℕ
 frameBy p s = octets 80 (fill (rowsBy p 80) s)
 
--- buffers of the right length, read from no later than an odd frame reads them, and voice from an octet's first bit on
+-- buffers of the right length, read from no later than an odd frame reads them: voice from an octet's first bit on, and so data, where its
+-- SC octets are whole eights
 pub record Ready (p : Layout) (voice : List ℕ) (v : ℕ) (lsd : List ℕ) (d : ℕ) : Type 0 where
   pub apart : Apart p
   pub spoken : length voice ≡ 140
@@ -65,3 +69,4 @@ pub record Ready (p : Layout) (voice : List ℕ) (v : ℕ) (lsd : List ℕ) (d :
   pub from : v ≤ 560
   pub whole : v % 8 ≡ 0
   pub on : d ≤ 624
+  pub begun : inEights p ≡ true → d % 8 ≡ 0

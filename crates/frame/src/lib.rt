@@ -1,8 +1,8 @@
 // The frames of a block: service rows, the writer, and what the service channel of a block says (document 01).
 ghost use mathlib.Core.Path.{_≡_};
-ghost use mathlib.Core.Bool.{true, false};
-ghost use mathlib.Core.List.{[], _++_};
-ghost use Prim.Native.Nat.{_+_, _-_, _*_, _%_, _^_, _<_, _≤_};
+ghost use mathlib.Core.Bool.{Bool, true, false};
+ghost use mathlib.Core.List.{List, [], _++_};
+ghost use Prim.Native.Nat.{ℕ, _+_, _-_, _*_, _/_, _%_, _^_, _<_, _≤_};
 ghost use lib.ListN.{length, getD, drop};
 ghost use lib.Seq.{paste};
 ghost use Rattle.bits.specs.Bits.{odd, bitsOf, lowBits, octetBits, digit, number, octets};
@@ -11,8 +11,8 @@ ghost use Rattle.frame.specs.Service.{serviceRows};
 ghost use Rattle.frame.specs.Block.{serviceBits, heard, streams, fitting, lineAfter};
 ghost use Rattle.bas.specs.Reading.{weight};
 ghost use Rattle.frame.specs.Channel.{channelBits, wrongBits, oddFirst, cBits, basWord};
-ghost use Rattle.frame.specs.Eight.{partedBy, eights, fieldOf, tailOf, octetOf, eightOf, owns, dataBits, eightAt, Fits};
-ghost use Rattle.frame.specs.Layout.{layoutOf, channelBy, rowBy, rowsBy, uncutAt, sc, Ready, frameSources, frameBy};
+ghost use Rattle.frame.specs.Eight.{partedBy, eights, fieldOf, fieldsOf, raisedBy, wordAt, headAt, tailAt, octetsIn};
+ghost use Rattle.frame.specs.Layout.{layoutOf, channelBy, rowsBy, inEights, Apart, sc, Ready, frameSources, frameBy};
 use modes::BlockNumber;
 use modes::Mode;
 use modes::Owner;
@@ -113,29 +113,11 @@ fn bits_at(buffer: &[u8], at: usize, n: usize) -> usize
     ((high * 256 + low) >> (16 - at % 8 - n)) % (1 << n)
 }
 
-// The n voice bits from bit `at` on, as a number: ones where voice is muted.
-fn voice_bits(voice: &[u8], mute: bool, at: usize, n: usize) -> usize
-    requires { ⌜ (n ≤ 8) × (at + n ≤ 8 * length (now voice)) ⌝ }
-    ensures { λ r. ⌜ r ≡ number (nexts n (drop at (heard mute (bitsOf (now (voice .entry)))))) ⌝ }
+// Whether data's SC octets are whole eights of a frame.
+pub fn in_eights(p: Layout) -> bool
+    ensures { λ r. ⌜ r ≡ inEights p ⌝ }
 {
-    if mute {
-        return (1 << n) - 1;
-    }
-    bits_at(voice, at, n)
-}
-
-// Whether data has the SC bit of all of octets o + 1 to o + 8, or of none: then the eight can be taken together.
-pub fn uncut(p: Layout, o: usize) -> bool
-    ensures { λ r. ⌜ r ≡ uncutAt p o ⌝ }
-{
-    let first = p.first as usize;
-    let last = p.last as usize;
-    if 255 < o {
-        return true;
-    }
-    let begins = (o + 2 <= first) & (first <= o + 8);
-    let ends = (o + 1 <= last) & (last <= o + 7);
-    !begins & !ends
+    (p.first % 8 == 1) & (p.last % 8 == 0)
 }
 
 // How many of SC octets 1 to n data holds.
@@ -157,16 +139,13 @@ fn sc_before(p: Layout, n: usize) -> usize
     0
 }
 
-// The SC bit of octet o + 1: a service bit, the data bit at `at`, or 1.
-fn channel_bit(p: Layout, o: usize, service: u16, lsd: &[u8], at: usize) -> usize
-    requires { ⌜ (o < 80) × (at + 1 ≤ 8 * length (now lsd)) ⌝ }
-    ensures { λ r. ⌜ r ≡ digit (getD (streams (drop o (lowBits 16 service)) [] (drop at (bitsOf (now (lsd .entry)))) (channelBy p (o + 1))) 0 true) ⌝ }
+// The SC bit of octet o + 1, past the service bits: the data bit at `at`, or 1.
+fn own_bit(p: Layout, o: usize, lsd: &[u8], at: usize) -> usize
+    requires { ⌜ (16 ≤ o) × (o < 80) × (at + 1 ≤ 8 * length (now lsd)) ⌝ }
+    ensures { λ r. ⌜ ((service : List Bool) → r ≡ digit (getD (streams service [] (drop at (bitsOf (now (lsd .entry)))) (channelBy p (o + 1))) 0 true)) ⌝ }
 {
     let first = p.first as usize;
     let last = p.last as usize;
-    if o < 16 {
-        return ((service as usize) >> (15 - o)) % 2;
-    }
     if o + 1 < first {
         return 1;
     }
@@ -176,162 +155,16 @@ fn channel_bit(p: Layout, o: usize, service: u16, lsd: &[u8], at: usize) -> usiz
     bits_at(lsd, at, 1)
 }
 
-// An octet's number: voice, g ones, and the t bits after them: data's and the SC bit.
-fn joined(voice: usize, g: usize, t: usize, tail: usize) -> usize
-    requires { ⌜ (voice < 256) × (g ≤ 7) × (t ≤ 8) × (tail < 1024) ⌝ }
-    ensures { λ r. ⌜ r ≡ (voice * 2 ^ g + (2 ^ g - 1)) * 2 ^ t + tail ⌝ }
-{
-    (voice << (g + t)) + (((1 << g) - 1) << t) + tail
-}
-
-// Octet o + 1 of a frame.
-fn octet_of(
-    p: Layout,
-    o: usize,
-    service: u16,
-    mute: bool,
-    voice: &[u8],
-    v: usize,
-    lsd: &[u8],
-    d: usize,
-) -> u8
-    requires { ⌜ o < 80 ⌝ }
-    requires { ⌜ Ready p (now voice) v (now lsd) d ⌝ }
-    ensures { λ r. ⌜ r ≡ number (fill (rowBy p (o + 1)) (rest (rowsBy p o) (frameSources service mute (now (voice .entry)) v (now (lsd .entry)) d))) ⌝ }
-{
-    let w = p.width as usize;
-    let c = p.columns as usize;
-    let at = d + o * c + sc_before(p, o);
-    let high = voice_bits(voice, mute, v + o * w, w);
-    let low = bits_at(lsd, at, c);
-    let last = channel_bit(p, o, service, lsd, at + c);
-    joined(high, 7 - (w + c), c + 1, low * 2 + last) as u8
-}
-
-// Octets o + 1 to o + 8 of a frame, each by itself.
-fn write_each(
-    frame: &mut [u8],
-    p: Layout,
-    o: usize,
-    service: u16,
-    mute: bool,
-    voice: &[u8],
-    v: usize,
-    lsd: &[u8],
-    d: usize,
-)
-    requires { ⌜ (length (now frame) ≡ 80) × (o + 8 ≤ 80) ⌝ }
-    requires { ⌜ Ready p (now voice) v (now lsd) d ⌝ }
-    ensures { λ _. ⌜ now (frame .exit) ≡ paste (now (frame .entry)) o (drop o (frameBy p (frameSources service mute (now (voice .entry)) v (now (lsd .entry)) d))) 8 ⌝ }
-{
-    for k in 0..8 {
-        frame[o + k] = octet_of(p, o + k, service, mute, voice, v, lsd, d);
-    }
-}
-
-// n octets of a buffer from octet i on, eight at most, as one number, taken in turn.
-fn octets_in_turn(buffer: &[u8], i: usize, n: usize) -> usize
-    requires { ⌜ (n ≤ 8) × (i + n ≤ length (now buffer)) ⌝ }
-    ensures { λ r. ⌜ r ≡ number (nexts (8 * n) (drop (8 * i) (bitsOf (now (buffer .entry))))) ⌝ }
-{
-    let mut x = 0;
-    for j in 0..n {
-        x = x * 256 + (buffer[i + j] as usize);
-    }
-    x
-}
-
-// The same. Where the buffer has eight octets there they are read at once, and those past the n are let go.
+// n octets of a buffer from octet i on, as one number: eight are read at once, and those past the n are let go. At the buffer's end there may
+// be fewer.
 fn octets_at(buffer: &[u8], i: usize, n: usize) -> usize
-    requires { ⌜ (n ≤ 8) × (i + n ≤ length (now buffer)) ⌝ }
+    requires { ⌜ (0 < n) × (n ≤ 8) × (i + n ≤ length (now buffer)) ⌝ }
     ensures { λ r. ⌜ r ≡ number (nexts (8 * n) (drop (8 * i) (bitsOf (now (buffer .entry))))) ⌝ }
 {
-    if (0 < n) & (8 <= buffer.len() - i) {
-        return octets_in_turn(buffer, i, 8) >> (8 * (8 - n));
+    if 8 <= buffer.len() - i {
+        return bits::whole_eight_at(buffer, i) >> (8 * (8 - n));
     }
-    octets_in_turn(buffer, i, n)
-}
-
-// n octets of voice from octet i on, seven at most, as one number: ones where voice is muted.
-fn voice_at(voice: &[u8], mute: bool, i: usize, n: usize) -> usize
-    requires { ⌜ (n ≤ 7) × (i + n ≤ length (now voice)) ⌝ }
-    ensures { λ r. ⌜ r ≡ number (nexts (8 * n) (drop (8 * i) (heard mute (bitsOf (now (voice .entry)))))) ⌝ }
-{
-    if !mute {
-        return octets_at(voice, i, n);
-    }
-    (1 << (8 * n)) - 1
-}
-
-// The SC bits of octets o + 1 to o + 8, as a number, where they are not data's: service bits in the first sixteen octets, then ones.
-fn channel_at(o: usize, service: u16) -> usize
-    requires { ⌜ o % 8 ≡ 0 ⌝ }
-    ensures { λ r. ⌜ r ≡ number (nexts 8 (drop o (lowBits 16 service))) ⌝ }
-{
-    if o == 0 {
-        return (service as usize) / 256;
-    }
-    if o == 8 {
-        return (service as usize) % 256;
-    }
-    255
-}
-
-// Whether data has the SC bit of octet o + 1.
-fn owned_at(p: Layout, o: usize) -> bool
-    requires { ⌜ o < 80 ⌝ }
-    ensures { λ r. ⌜ r ≡ owns p o ⌝ }
-{
-    let first = p.first as usize;
-    let last = p.last as usize;
-    (first <= o + 1) & (o + 1 <= last)
-}
-
-// How many bits of an octet are data's: its columns, and the SC bit where that is owned.
-fn data_bits(c: usize, owned: bool) -> usize
-    requires { ⌜ c ≤ 7 ⌝ }
-    ensures { λ r. ⌜ r ≡ dataBits c owned ⌝ }
-{
-    if owned {
-        return c + 1;
-    }
-    c
-}
-
-// Eight octets of a frame: their voice, their data and their SC bits, each as one number, and whether the SC bits are data's and stand
-// with it.
-struct Eight {
-    voice: usize,
-    lsd: usize,
-    channel: usize,
-    owned: bool,
-}
-
-// Octets o + 1 to o + 8, their voice from octet i of its buffer on and their data from octet j of its own.
-fn eight_of(
-    p: Layout,
-    o: usize,
-    service: u16,
-    mute: bool,
-    voice: &[u8],
-    i: usize,
-    lsd: &[u8],
-    j: usize,
-) -> Eight
-    requires { ⌜ (p .width + p .columns ≤ 7) × (o < 80) × (o % 8 ≡ 0) ⌝ }
-    requires { ⌜ (i + p .width ≤ length (now voice)) × (j + dataBits (p .columns) (owns p o) ≤ length (now lsd)) ⌝ }
-    ensures { λ r. ⌜ r ≡ eightAt p o (drop o (lowBits 16 service)) (drop (8 * i) (heard mute (bitsOf (now (voice .entry))))) (drop (8 * j) (bitsOf (now (lsd .entry)))) ⌝ }
-{
-    let w = p.width as usize;
-    let c = p.columns as usize;
-    let owned = owned_at(p, o);
-    let n = data_bits(c, owned);
-    Eight {
-        voice: voice_at(voice, mute, i, w),
-        lsd: octets_at(lsd, j, n),
-        channel: channel_at(o, service),
-        owned: owned,
-    }
+    bits::eight_at(buffer, i) >> (8 * (8 - n))
 }
 
 // A number's lanes parted in two: what the mask covers stays, and the rest moves up.
@@ -354,73 +187,168 @@ fn spread(x: usize, n: usize) -> usize
     parted(four, ((1 << n) - 1) * 0x1_0001_0001_0001, 8 - n)
 }
 
-// The last bits of the eight octets, data's and the SC bit. Where data has none, as in every block of voice alone, the SC bits are all.
-fn tails(c: usize, e: Eight) -> usize
-    requires { ⌜ (c ≤ 7) × (e .lsd < 2 ^ (8 * dataBits c (e .owned))) × (e .channel < 256) ⌝ }
-    ensures { λ r. ⌜ r ≡ eights (tailOf c e) ⌝ }
+// Eight fields of n bits each, from octet i of a buffer on, as the low bits of eight octets.
+fn lane(buffer: &[u8], i: usize, n: usize) -> usize
+    requires { ⌜ (0 < n) × (n ≤ 8) × (i + n ≤ length (now buffer)) ⌝ }
+    ensures { λ r. ⌜ r ≡ eights (fieldsOf n (drop (8 * i) (bitsOf (now (buffer .entry))))) ⌝ }
 {
-    if e.owned {
-        return spread(e.lsd, c + 1);
-    }
-    let channel = spread(e.channel, 1);
-    if c == 0 {
-        return channel;
-    }
-    spread(e.lsd, c) * 2 + channel
+    spread(octets_at(buffer, i, n), n)
 }
 
-// The eight octets as one number: their voice, nobody's ones in each, and their last bits.
-fn word_of(p: Layout, e: Eight) -> usize
-    requires { ⌜ (p .width + p .columns ≤ 7) × Fits p e ⌝ }
-    ensures { λ r. ⌜ r ≡ eights (octetOf p e) ⌝ }
+// A number in each of eight octets.
+fn alike(octet: usize) -> usize
+    requires { ⌜ octet < 256 ⌝ }
+    ensures { λ r. ⌜ r ≡ eights (λ k. octet) ⌝ }
+{
+    octet * 0x0101_0101_0101_0101
+}
+
+// n ones above so many bits, as an octet.
+fn ones_above(n: usize, up: usize) -> usize
+    requires { ⌜ n + up ≤ 8 ⌝ }
+    ensures { λ r. ⌜ r ≡ (2 ^ n - 1) * 2 ^ up ⌝ }
+{
+    ((1 << n) - 1) << up
+}
+
+// Eights `from` to `to` of a frame's ten are set to a number. The eights before are as they were.
+fn fill_eights(lanes: &mut [usize], from: usize, to: usize, word: usize)
+    requires { ⌜ (length (now lanes) ≡ 10) × (from ≤ to) × (to ≤ 10) ⌝ }
+    ensures { λ _. ⌜ ((k : ℕ) → k < from → getD (now (lanes .exit)) k 0 ≡ getD (now (lanes .entry)) k 0) × ((k : ℕ) → from ≤ k → k < to → getD (now (lanes .exit)) k 0 ≡ word) ⌝ }
+{
+    for k in from..to {
+        lanes[k] = word;
+    }
+}
+
+// Eights `from` to `to` of a frame's ten: fields of n bits, from octet i of a buffer on, `up` bits up in their octets, and below them the
+// same bits in each. The eights before are as they were.
+fn lay(
+    lanes: &mut [usize],
+    from: usize,
+    to: usize,
+    buffer: &[u8],
+    i: usize,
+    n: usize,
+    up: usize,
+    below: usize,
+)
+    requires { ⌜ (length (now lanes) ≡ 10) × (from ≤ to) × (to ≤ 10) × (n + up ≤ 8) × (below < 2 ^ up) ⌝ }
+    requires { ⌜ i + (to - from) * n ≤ length (now buffer) ⌝ }
+    ensures { λ _. ⌜ ((k : ℕ) → k < from → getD (now (lanes .exit)) k 0 ≡ getD (now (lanes .entry)) k 0) × ((k : ℕ) → from ≤ k → k < to → getD (now (lanes .exit)) k 0 ≡ raisedBy n up below (drop (8 * (i + (k - from) * n)) (bitsOf (now (buffer .entry))))) ⌝ }
+{
+    let same = alike(below);
+    if n == 0 {
+        fill_eights(lanes, from, to, same);
+        return;
+    }
+    for k in from..to {
+        lanes[k] = (lane(buffer, i + (k - from) * n, n) << up) + same;
+    }
+}
+
+// Voice and nobody's ones in the ten eights of a frame, voice from its bit v on. Where it is muted or has no bits there are ones alone.
+fn heads(lanes: &mut [usize], p: Layout, mute: bool, voice: &[u8], v: usize)
+    requires { ⌜ (length (now lanes) ≡ 10) × (p .width + p .columns ≤ 7) × (length (now voice) ≡ 140) × (v ≤ 560) × (v % 8 ≡ 0) ⌝ }
+    ensures { λ _. ⌜ ((k : ℕ) → k < 10 → getD (now (lanes .exit)) k 0 ≡ wordAt (headAt p (drop v (heard mute (bitsOf (now (voice .entry)))))) k) ⌝ }
 {
     let w = p.width as usize;
     let c = p.columns as usize;
-    let ones = ((1 << (7 - (w + c))) - 1) << (c + 1);
-    (spread(e.voice, w) << (8 - w)) + ones * 0x0101_0101_0101_0101 + tails(c, e)
+    if mute | (w == 0) {
+        fill_eights(lanes, 0, 10, alike(ones_above(7 - c, c + 1)));
+        return;
+    }
+    lay(
+        lanes,
+        0,
+        10,
+        voice,
+        v / 8,
+        w,
+        8 - w,
+        ones_above(7 - (w + c), c + 1),
+    );
 }
 
-// The eight octets, written from octet o + 1 on.
-fn write_eight(frame: &mut [u8], o: usize, p: Layout, e: Eight)
-    requires { ⌜ (length (now frame) ≡ 80) × (o + 8 ≤ 80) × (p .width + p .columns ≤ 7) × Fits p e ⌝ }
-    ensures { λ _. ⌜ now (frame .exit) ≡ paste (now (frame .entry)) o (eightOf p e) 8 ⌝ }
+// The SC bits of the eight octets from o + 1 on, past the service bits, one by one: data has no columns.
+fn cut_eight(p: Layout, o: usize, lsd: &[u8], d: usize) -> usize
+    requires { ⌜ (p .columns ≡ 0) × (16 ≤ o) × (o + 8 ≤ 80) × (16 < p .first) × (d ≤ 624) × (length (now lsd) ≡ 156) ⌝ }
+    ensures { λ r. ⌜ ((service : List Bool) → r ≡ eights (λ j. tailAt p service (drop d (bitsOf (now (lsd .entry)))) (o + j))) ⌝ }
 {
-    let word = word_of(p, e);
+    let mut eight = 0;
+    for j in 0..8 {
+        eight = eight * 256 + own_bit(p, o + j, lsd, d + sc_before(p, o + j));
+    }
+    eight
+}
+
+// Eights a to b of a frame's ten, each by itself.
+fn cut(lanes: &mut [usize], a: usize, b: usize, p: Layout, lsd: &[u8], d: usize)
+    requires { ⌜ (length (now lanes) ≡ 10) × (2 ≤ a) × (a ≤ b) × (b ≤ 10) ⌝ }
+    requires { ⌜ (p .columns ≡ 0) × (16 < p .first) × (d ≤ 624) × (length (now lsd) ≡ 156) ⌝ }
+    ensures { λ _. ⌜ ((k : ℕ) → k < a → getD (now (lanes .exit)) k 0 ≡ getD (now (lanes .entry)) k 0) × ((service : List Bool) (k : ℕ) → a ≤ k → k < b → getD (now (lanes .exit)) k 0 ≡ wordAt (tailAt p service (drop d (bitsOf (now (lsd .entry))))) k) ⌝ }
+{
+    for k in a..b {
+        lanes[k] = cut_eight(p, 8 * k, lsd, d);
+    }
+}
+
+// Eights a to b of a frame's ten, those that hold data's SC octets: in a run where they are its own whole, and else each by itself.
+fn own_eights(lanes: &mut [usize], a: usize, b: usize, p: Layout, lsd: &[u8], d: usize)
+    requires { ⌜ (length (now lanes) ≡ 10) × (a ≡ (p .first - 1) / 8) × (b ≡ (p .last + 7) / 8) ⌝ }
+    requires { ⌜ Apart p ⌝ }
+    requires { ⌜ (length (now lsd) ≡ 156) × (d ≤ 624) × (inEights p ≡ true → d % 8 ≡ 0) ⌝ }
+    ensures { λ _. ⌜ ((k : ℕ) → k < a → getD (now (lanes .exit)) k 0 ≡ getD (now (lanes .entry)) k 0) × ((service : List Bool) (k : ℕ) → a ≤ k → k < b → getD (now (lanes .exit)) k 0 ≡ wordAt (tailAt p service (drop d (bitsOf (now (lsd .entry))))) k) ⌝ }
+{
+    let c = p.columns as usize;
+    if in_eights(p) {
+        lay(lanes, a, b, lsd, d / 8 + a * c, c + 1, 0, 0);
+        return;
+    }
+    cut(lanes, a, b, p, lsd, d);
+}
+
+// Data's columns and the service bits in the first two eights of a frame.
+fn first_eights(lanes: &mut [usize], p: Layout, service: u16, lsd: &[u8], d: usize)
+    requires { ⌜ length (now lanes) ≡ 10 ⌝ }
+    requires { ⌜ Apart p ⌝ }
+    requires { ⌜ (length (now lsd) ≡ 156) × (d ≤ 624) × (inEights p ≡ true → d % 8 ≡ 0) ⌝ }
+    ensures { λ _. ⌜ ((k : ℕ) → k < 2 → getD (now (lanes .exit)) k 0 ≡ wordAt (tailAt p (lowBits 16 service) (drop d (bitsOf (now (lsd .entry))))) k) ⌝ }
+{
+    lay(lanes, 0, 2, lsd, d / 8, p.columns as usize, 1, 0);
+    lanes[0] = lanes[0] + spread((service / 256) as usize, 1);
+    lanes[1] = lanes[1] + spread((service % 256) as usize, 1);
+}
+
+// Data's columns and the SC bits in the ten eights of a frame, data from its bit d on. Between the service bits and data's own SC octets,
+// and after those, they are ones.
+fn tails(lanes: &mut [usize], p: Layout, service: u16, lsd: &[u8], d: usize)
+    requires { ⌜ length (now lanes) ≡ 10 ⌝ }
+    requires { ⌜ Apart p ⌝ }
+    requires { ⌜ (length (now lsd) ≡ 156) × (d ≤ 624) × (inEights p ≡ true → d % 8 ≡ 0) ⌝ }
+    ensures { λ _. ⌜ ((k : ℕ) → k < 10 → getD (now (lanes .exit)) k 0 ≡ wordAt (tailAt p (lowBits 16 service) (drop d (bitsOf (now (lsd .entry))))) k) ⌝ }
+{
+    let c = p.columns as usize;
+    let a = (p.first as usize - 1) / 8;
+    let b = (p.last as usize + 7) / 8;
+    let j = d / 8;
+    first_eights(lanes, p, service, lsd, d);
+    lay(lanes, 2, a, lsd, j + 2 * c, c, 1, 1);
+    own_eights(lanes, a, b, p, lsd, d);
+    lay(lanes, b, 10, lsd, j + b * c + (b - a), c, 1, 1);
+}
+
+// Eight octets, from a number, written from octet o + 1 on.
+fn write_word(frame: &mut [u8], o: usize, word: usize)
+    requires { ⌜ (length (now frame) ≡ 80) × (o + 8 ≤ 80) ⌝ }
+    ensures { λ _. ⌜ now (frame .exit) ≡ paste (now (frame .entry)) o (octetsIn word) 8 ⌝ }
+{
     for k in 0..8 {
         frame[o + k] = ((word >> (8 * (7 - k))) % 256) as u8;
     }
 }
 
-// Octets o + 1 to o + 8 of a frame: together where data's SC octets do not cut them, and their data, if any, begins with an octet of its
-// buffer.
-fn write_some(
-    frame: &mut [u8],
-    p: Layout,
-    o: usize,
-    service: u16,
-    mute: bool,
-    voice: &[u8],
-    v: usize,
-    lsd: &[u8],
-    d: usize,
-)
-    requires { ⌜ (length (now frame) ≡ 80) × (o + 8 ≤ 80) × (o % 8 ≡ 0) ⌝ }
-    requires { ⌜ Ready p (now voice) v (now lsd) d ⌝ }
-    ensures { λ _. ⌜ now (frame .exit) ≡ paste (now (frame .entry)) o (drop o (frameBy p (frameSources service mute (now (voice .entry)) v (now (lsd .entry)) d))) 8 ⌝ }
-{
-    let w = p.width as usize;
-    let c = p.columns as usize;
-    let at = d + o * c + sc_before(p, o);
-    let n = data_bits(c, owned_at(p, o));
-    if uncut(p, o) & ((n == 0) | (at % 8 == 0)) {
-        let e = eight_of(p, o, service, mute, voice, (v + o * w) / 8, lsd, at / 8);
-        write_eight(frame, o, p, e);
-        return;
-    }
-    write_each(frame, p, o, service, mute, voice, v, lsd, d);
-}
-
-// One frame, whole: 80 octets, eight at a time.
+// One frame, whole: ten times eight octets, both parts of them added.
 fn write_frame(
     frame: &mut [u8],
     p: Layout,
@@ -435,10 +363,12 @@ fn write_frame(
     requires { ⌜ Ready p (now voice) v (now lsd) d ⌝ }
     ensures { λ _. ⌜ now (frame .exit) ≡ frameBy p (frameSources service mute (now (voice .entry)) v (now (lsd .entry)) d) ⌝ }
 {
-    let mut o = 0;
-    while o < 80 {
-        write_some(frame, p, o, service, mute, voice, v, lsd, d);
-        o += 8;
+    let mut voiced: [usize; 10] = [0; 10];
+    let mut ends: [usize; 10] = [0; 10];
+    heads(&mut voiced, p, mute, voice, v);
+    tails(&mut ends, p, service, lsd, d);
+    for k in 0..10 {
+        write_word(frame, 8 * k, voiced[k] + ends[k]);
     }
 }
 

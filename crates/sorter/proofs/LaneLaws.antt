@@ -6,15 +6,14 @@ use native.Mathlib.Nat.{mod-lt, mod-eq-of-lt, add-le-add, mul-le-mul-right, add-
 use native.Mathlib.Numerals.{add-one}
 use native.Mathlib.Omega.{arith}
 use lib.Arith.{digits-lt}
-use lib.Dec.{lit<}
 use lib.Pow.{pow-pos, pow-mono, pow-add, split, shr-shr, high, low, field, mod-mod-pow, ones-lt, ones-split}
 use lib.Bits.{bitAnd, and-block, and-mask, and-le-r}
 use lib.ListN.{getD, take, drop}
-use Rattle.bits.specs.Bits.{octetBits, number}
+use Rattle.bits.specs.Bits.{octetBits, number, numberAt}
 use Rattle.bits.proofs.BitLaws.{number-lowBits}
 use Rattle.bits.proofs.RunLaws.{run-value, length-octet}
-use Rattle.sorter.specs.Lanes.{word, picked, units}
-use Rattle.sorter.specs.Packed.{runs}
+use Rattle.sorter.specs.Lanes.{picked, units}
+use Rattle.sorter.specs.Filled.{runs}
 use Rattle.sorter.proofs.SortLaws.{number-runs}
 
 -- of fewer low bits nothing is lost by a cut at w
@@ -99,13 +98,6 @@ unfolding picked
 picked-one w n x h = rw (mod-eq-of-lt h, zero-mul, zero-add)
 
 -- ---- eight octets as one number
-pub word-lt : (line : List ℕ) (o k : ℕ) → word line o k < 2 ^ (8 * k)
-unfolding word
-word-lt line o zero = lit< tt
-word-lt line o (suc k) =
-    let e : 8 * suc k ≡ 8 * k + 8 = omega arith in
-    rw (e, pow-add 2 (8 * k) 8) (digits-lt (word-lt line o k) (mod-lt (getD line (o + k) 0) (pow-pos 8)))
-
 -- n bits that end e bits before the end of an octet are not touched by what stands above it
 within-octet : (e n x : ℕ) → n + e ≤ 8 → x / 2 ^ e % 2 ^ n ≡ x % 256 / 2 ^ e % 2 ^ n
 within-octet e n x h =
@@ -114,17 +106,17 @@ within-octet e n x h =
     ∙ field (x % 256) n e
 
 -- what is picked out of the octets' number is the number of their runs
-pub picked-runs : (s n : ℕ) (line : List ℕ) (o k : ℕ) → s + n ≤ 8 → picked 8 n k (word line o k / 2 ^ (8 - (s + n))) ≡ number (runs s n line o k)
-unfolding picked word runs number
+pub picked-runs : (s n : ℕ) (line : List ℕ) (o k : ℕ) → s + n ≤ 8 → picked 8 n k (numberAt line o k / 2 ^ (8 - (s + n))) ≡ number (runs s n line o k)
+unfolding picked numberAt runs number
 picked-runs s n line o zero h = refl
 picked-runs s n line o (suc k) h =
     let e : ℕ = 8 - (s + n) in
     let y : ℕ = getD line (o + k) 0 in
-    let all : ℕ = word line o k * 256 + y % 256 in
+    let all : ℕ = numberAt line o k * 256 + y % 256 in
     let octet : y % 256 < 2 ^ 8 = mod-lt y (pow-pos 8) in
-    let above : all / 2 ^ e / 2 ^ 8 ≡ word line o k / 2 ^ e = shifts all e 8 ∙ ap (λ (z : ℕ). z / 2 ^ e) (high (word line o k) 8 octet) in
+    let above : all / 2 ^ e / 2 ^ 8 ≡ numberAt line o k / 2 ^ e = shifts all e 8 ∙ ap (λ (z : ℕ). z / 2 ^ e) (high (numberAt line o k) 8 octet) in
     let here : all / 2 ^ e % 2 ^ n ≡ y % 256 / 2 ^ e % 2 ^ n =
-    within-octet e n all (omega arith) ∙ ap (λ (z : ℕ). z / 2 ^ e % 2 ^ n) (low (word line o k) 8 octet) in
+    within-octet e n all (omega arith) ∙ ap (λ (z : ℕ). z / 2 ^ e % 2 ^ n) (low (numberAt line o k) 8 octet) in
     let run : number (take n (drop s (octetBits y))) ≡ y % 256 / 2 ^ e % 2 ^ n =
     rw (length-octet y, number-lowBits 8 y) at (run-value s n (octetBits y) (rw length-octet h)) in
     ap₂ (λ (a b : ℕ). picked 8 n k a * 2 ^ n + b) above (here ∙ sym run)

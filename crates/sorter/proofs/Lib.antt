@@ -1,4 +1,4 @@
-pub mod QueueLaws
 pub mod SortLaws
 pub mod LaneLaws
 pub mod RoundLaws
+pub mod FillLaws

@@ -1,27 +1,28 @@
--- The run of a stream in an octet, and a block sorted octet by octet or eight at a time: what has come out so far, and that there is room for more.
+-- The run of a stream in an octet, and a block sorted by runs: what has come out of its first octets, of a frame, and of all.
 use mathlib.Core.Path.{_≡_, refl, ap, sym, _∙_}
-use mathlib.Core.Bool.{Bool, true, false, cond}
-use mathlib.Core.Logic.{_⊎_, inl, inr}
-use mathlib.Core.List.{List, _++_, append-assoc, append-nil}
+use mathlib.Core.Bool.{Bool, true, false, false≢true, cond}
+use mathlib.Core.Logic.{_⊎_, inl, inr, ⊎-elim}
+use mathlib.Core.List.{List, [], _++_, append-assoc, append-nil}
 use Prim.Native.Nat.{ℕ, zero, suc, _+_, _-_, _*_, _%_, _^_, _≤_, _<_}
-use native.Mathlib.Nat.{mod-eq-of-lt, mul-comm, zero-add, add-zero, suc-add, zero-mul, suc-mul}
+use native.Mathlib.Nat.{mod-eq-of-lt, mul-comm, add-zero, suc-add, zero-mul, suc-mul}
 use native.Mathlib.Numerals.{add-one}
 use native.Mathlib.Omega.{arith}
-use borrow.Author.Tests.{leb-true, leb-false, le-leb, lt-leb}
-use lib.Dec.{leb}
+use borrow.Author.Tests.{eqb-true, leb-true, leb-false, le-leb, lt-leb}
+use lib.Dec.{eqb, leb}
 use lib.ListN.{length, getD, take, drop, length-append, length-replicate, length-drop, length-take}
 use lib.Seq.{drop-drop, take-add, drop-cons}
 use Rattle.bits.specs.Bits.{bitsOf, octetBits, number}
-use Rattle.bits.proofs.BitLaws.{length-bitsOf, number-append, number-bound}
-use Rattle.bits.proofs.RunLaws.{drop-bitsOf, run-left, length-octet}
+use Rattle.bits.proofs.BitLaws.{number-lowBits, number-append}
+use Rattle.bits.proofs.Every.{and-left, and-right}
+use Rattle.bits.proofs.RunLaws.{drop-bitsOf, run-left, run-value, length-octet}
 use Rattle.modes.specs.declared.Owner.{Owner}
 use Rattle.modes.specs.declared.Owner.the-variants.{Service, Voice, Lsd, Nobody}
-use Rattle.frame.specs.Streams.{same, count, sort}
-use Rattle.frame.specs.Layout.{Apart, columnsBy, channelBy, rowBy, rowsBy, uncutAt}
+use Rattle.frame.specs.Streams.{same, sort}
+use Rattle.frame.specs.Layout.{Apart, columnsBy, channelBy, rowBy, rowsBy, inEights}
 use Rattle.frame.specs.declared.Layout.{Layout}
-use Rattle.frame.proofs.StreamLaws.{count-append, sort-append, sort-all, sort-none, length-sort}
-use Rattle.frame.proofs.LayoutLaws.{no-voice, length-row, uncut-in, uncut-before}
-use Rattle.sorter.specs.Packed.{blockRows, sofar, runs}
+use Rattle.frame.proofs.StreamLaws.{sort-append, sort-all, sort-none}
+use Rattle.frame.proofs.LayoutLaws.{no-voice, length-row}
+use Rattle.sorter.specs.Filled.{blockRows, sofar, runs}
 
 -- ---- the run of a stream in an octet
 pub sort-voice : (p : Layout) (o : ℕ) (bs : List Bool) → sort Voice (rowBy p o) bs ≡ take (p .width) bs
@@ -67,9 +68,6 @@ sort-lsd-out p o bs h k = rw (sort-lsd p o bs h, not-lsd p o k, append-nil)
 pub length-run : (s n x : ℕ) → s + n ≤ 8 → length (take n (drop s (octetBits x))) ≡ n
 length-run s n x h = simp (length-take, length-drop, length-octet) (omega arith)
 
-pub run-lt : (s n x : ℕ) → s + n ≤ 8 → number (take n (drop s (octetBits x))) < 2 ^ n
-run-lt s n x h = rw (length-run s n x h) at (number-bound (take n (drop s (octetBits x))))
-
 -- ---- a block, octet by octet
 block-low : (p : Layout) (n : ℕ) → n ≤ 80 → blockRows p n ≡ rowsBy p n
 unfolding rowsBy
@@ -106,28 +104,6 @@ sofar-more p w line o s n h hn ho run =
     (rw (run (drop (length (blockRows p o)) b), at, here) (run-left s n (octetBits x) (bitsOf (drop (suc o) line)) fits))
 
 -- ---- octets that hold one run
-pub voice-alike : (p : Layout) (o k : ℕ) (bs : List Bool) → sort Voice (rowBy p (o + k + 1)) bs ≡ sort Voice (rowBy p (o + 1)) bs
-voice-alike p o k bs = sort-voice p (o + k + 1) bs ∙ sym (sort-voice p (o + 1) bs)
-
-pub lsd-alike : (p : Layout) (o k : ℕ) (bs : List Bool) → Apart p → uncutAt p o ≡ true → k < 8
-    → sort Lsd (rowBy p (o + k + 1)) bs ≡ sort Lsd (rowBy p (o + 1)) bs
-lsd-alike p o k bs h u hk = go (leb (p .first) (o + 1)) (leb (o + 1) (p .last)) refl refl
-  where
-    go : (a b : Bool) → leb (p .first) (o + 1) ≡ a → leb (o + 1) (p .last) ≡ b → sort Lsd (rowBy p (o + k + 1)) bs ≡ sort Lsd (rowBy p (o + 1)) bs
-    go false b ea eb =
-        let here = leb-false (p .first) (o + 1) ea in
-        sort-lsd-out p (o + k + 1) bs (h .within) (inl (uncut-before p o k u here hk))
-        ∙ sym (sort-lsd-out p (o + 1) bs (h .within) (inl here))
-    go true false ea eb =
-        let here = leb-false (o + 1) (p .last) eb in
-        sort-lsd-out p (o + k + 1) bs (h .within) (inr (omega arith)) ∙ sym (sort-lsd-out p (o + 1) bs (h .within) (inr here))
-    go true true ea eb =
-        let first = leb-true (p .first) (o + 1) ea in
-        let last = leb-true (o + 1) (p .last) eb in
-        let after = h .after in
-        sort-lsd-in p (o + k + 1) bs (h .within) (omega arith) (omega arith) (uncut-in p o k u last hk)
-        ∙ sym (sort-lsd-in p (o + 1) bs (h .within) (omega arith) first last)
-
 pub length-runs : (s n : ℕ) (line : List ℕ) (o k : ℕ) → s + n ≤ 8 → length (runs s n line o k) ≡ k * n
 unfolding runs
 length-runs s n line o zero h = sym (zero-mul n)
@@ -140,6 +116,37 @@ number-runs s n line o k h =
     let run : List Bool = take n (drop s (octetBits (getD line (o + k) 0))) in
     ap (λ (j : ℕ). number (runs s n line o j)) (add-one k) ∙ number-append (runs s n line o k) run
     ∙ rw (length-run s n (getD line (o + k) 0) h)
+
+-- more octets, after those from `from` to o
+runs-add : (s n : ℕ) (line : List ℕ) (o k j : ℕ) → runs s n line o (k + j) ≡ runs s n line o k ++ runs s n line (o + k) j
+unfolding runs
+runs-add s n line o k zero = rw (add-zero k) (sym (append-nil (runs s n line o k)))
+runs-add s n line o k (suc j) =
+    let e : k + suc j ≡ suc (k + j) = omega arith in
+    let f : o + (k + j) ≡ o + k + j = omega arith in
+    rw (e, f, runs-add s n line o k j) (append-assoc (runs s n line o k) (runs s n line (o + k) j) (take n (drop s (octetBits (getD line (o + k + j) 0)))))
+
+pub runs-on : (bs : List Bool) (s n : ℕ) (line : List ℕ) (from o j : ℕ) → from ≤ o
+    → bs ++ runs s n line from (o + j - from) ≡ (bs ++ runs s n line from (o - from)) ++ runs s n line o j
+runs-on bs s n line from o j h =
+    let e : o + j - from ≡ o - from + j = omega arith in
+    let f : from + (o - from) ≡ o = omega arith in
+    let more = runs-add s n line from (o - from) j in
+    rw e (ap (λ (l : List Bool). bs ++ l) (rw f at more) ∙ sym (append-assoc bs (runs s n line from (o - from)) (runs s n line o j)))
+
+-- runs of no bits
+pub no-runs : (s : ℕ) (line : List ℕ) (o k : ℕ) → runs s 0 line o k ≡ []
+unfolding runs
+no-runs s line o zero = refl
+no-runs s line o (suc k) = rw (no-runs s line o k)
+
+-- the last bit of an octet
+pub last-bit : (line : List ℕ) (o : ℕ) → number (runs 7 1 line o 1) ≡ getD line o 0 % 2
+unfolding runs
+last-bit line o =
+    let x : ℕ = getD line o 0 in
+    let e : o + 0 ≡ o = omega arith in
+    rw (e, run-value 7 1 (octetBits x) (rw length-octet (omega arith)), length-octet x, number-lowBits 8 x) (omega arith)
 
 pub sofar-runs : (p : Layout) (w : Owner) (line : List ℕ) (o s n k : ℕ) → p .width + p .columns ≤ 7 → s + n ≤ 8 → o + k ≤ length line
     → ((j : ℕ) → j < k → (bs : List Bool) → sort w (rowBy p ((o + j) % 80 + 1)) bs ≡ take n (drop s bs))
@@ -154,35 +161,83 @@ sofar-runs p w line o s n (suc k) h hn ho run =
     ∙ ap (λ (l : List Bool). l ++ take n (drop s (octetBits x))) (sofar-runs p w line o s n k h hn (omega arith) (λ j l. run j (omega arith)))
     ∙ append-assoc (sofar p w line o) (runs s n line o k) (take n (drop s (octetBits x)))
 
--- eight octets of a frame that all hold the run of their first
-pub sofar-eight : (p : Layout) (w : Owner) (line : List ℕ) (o s n : ℕ) → p .width + p .columns ≤ 7 → s + n ≤ 8 → o + 8 ≤ length line → o % 8 ≡ 0
-    → ((bs : List Bool) → sort w (rowBy p (o % 80 + 1)) bs ≡ take n (drop s bs))
-    → ((k : ℕ) → k < 8 → (bs : List Bool) → sort w (rowBy p (o % 80 + k + 1)) bs ≡ sort w (rowBy p (o % 80 + 1)) bs)
-    → sofar p w line (o + 8) ≡ sofar p w line o ++ runs s n line o 8
-sofar-eight p w line o s n h hn ho h8 run same = sofar-runs p w line o s n 8 h hn ho each
+-- ---- octets a + 1 to b of a block, which lie in the frame that follows octet `from`
+row-at : (from a j : ℕ) → from % 80 ≡ 0 → from ≤ a → a + j < from + 80 → (a + j) % 80 + 1 ≡ a + j + 1 - from
+row-at from a j h l m = omega arith
+
+up-to : (p : Layout) (w : Owner) (line : List ℕ) (from a b s n : ℕ) → Apart p → length line ≡ 160
+    → from % 80 ≡ 0 → from + 80 ≤ 160 → from ≤ a → a ≤ b → b ≤ from + 80 → s + n ≤ 8
+    → ((o : ℕ) → a < from + o → from + o ≤ b → (bs : List Bool) → sort w (rowBy p o) bs ≡ take n (drop s bs))
+    → sofar p w line b ≡ sofar p w line a ++ runs s n line a (b - a)
+up-to p w line from a b s n h hl hf he ha hab hb hn run =
+    let e : a + (b - a) ≡ b = omega arith in
+    ap (sofar p w line) (sym e)
+    ∙ sofar-runs p w line a s n (b - a) (h .within) hn (omega arith)
+    (λ j l bs. rw (row-at from a j hf ha (omega arith)) (run (a + j + 1 - from) (omega arith) (omega arith) bs))
+
+-- those that data has no SC bit of, and those that it has the SC bit of
+pub lsd-without : (p : Layout) (line : List ℕ) (from a b : ℕ) → Apart p → length line ≡ 160
+    → from % 80 ≡ 0 → from + 80 ≤ 160 → from ≤ a → a ≤ b → b ≤ from + 80 → (b < from + p .first) ⊎ (from + p .last ≤ a)
+    → sofar p Lsd line b ≡ sofar p Lsd line a ++ runs (7 - p .columns) (p .columns) line a (b - a)
+lsd-without p line from a b h hl hf he ha hab hb out =
+    up-to p Lsd line from a b (7 - p .columns) (p .columns) h hl hf he ha hab hb (omega (arith, h .within)) (λ o l m bs. sort-lsd-out p o bs (h .within) (beyond o l m out))
   where
-    each : (k : ℕ) → k < 8 → (bs : List Bool) → sort w (rowBy p ((o + k) % 80 + 1)) bs ≡ take n (drop s bs)
-    each k hk bs = let e : (o + k) % 80 + 1 ≡ o % 80 + k + 1 = omega arith in rw e (same k hk bs ∙ run bs)
+    beyond : (o : ℕ) → a < from + o → from + o ≤ b → (b < from + p .first) ⊎ (from + p .last ≤ a) → (o < p .first) ⊎ (p .last < o)
+    beyond o l m (inl e) = inl (omega arith)
+    beyond o l m (inr e) = inr (omega arith)
 
--- ---- there is room for what comes out
-pub length-sofar : (p : Layout) (w : Owner) (line : List ℕ) (n : ℕ) → p .width + p .columns ≤ 7 → n ≤ length line
-    → length (sofar p w line n) ≡ count w (blockRows p n)
-length-sofar p w line n h hn = length-sort w (blockRows p n) (bitsOf line) (rw (length-block p n h, length-bitsOf) (omega arith))
+pub lsd-with : (p : Layout) (line : List ℕ) (from a b : ℕ) → Apart p → length line ≡ 160
+    → from % 80 ≡ 0 → from + 80 ≤ 160 → a ≤ b → from + p .first ≤ a + 1 → b ≤ from + p .last
+    → sofar p Lsd line b ≡ sofar p Lsd line a ++ runs (7 - p .columns) (p .columns + 1) line a (b - a)
+lsd-with p line from a b h hl hf he hab hfirst hlast =
+    up-to p Lsd line from a b (7 - p .columns) (p .columns + 1) h hl hf he (omega (arith, h .after)) hab (omega (arith, h .until)) (omega (arith, h .within))
+    (λ o l m bs. sort-lsd-in p o bs (h .within) (omega (arith, h .after)) (omega arith) (omega arith))
 
-grows : (p : Layout) (w : Owner) (n m : ℕ) → count w (blockRows p n) ≤ count w (blockRows p (m + n))
-grows p w n zero = rw zero-add (omega arith)
-grows p w n (suc m) = rw (suc-add m n, count-append w (blockRows p (m + n)) (rowBy p ((m + n) % 80 + 1))) (omega (arith, grows p w n m))
+pub whole-eights : (p : Layout) → inEights p ≡ true → (p .first % 8 ≡ 1) × (p .last % 8 ≡ 0)
+unfolding inEights
+whole-eights p e =
+    (eqb-true (p .first % 8) 1 (and-left (eqb (p .first % 8) 1) (eqb (p .last % 8) 0) e), eqb-true (p .last % 8) 0 (and-right (eqb (p .first % 8) 1) (eqb (p .last % 8) 0) e))
 
-pub count-le : (p : Layout) (w : Owner) (n : ℕ) → n ≤ 160 → count w (blockRows p n) ≤ 2 * count w (rowsBy p 80)
-count-le p w n h =
-    let e : 160 - n + n ≡ 160 = omega arith in
-    let all : count w (blockRows p (160 - n + n)) ≡ count w (rowsBy p 80) + count w (rowsBy p 80) =
-    ap (λ (k : ℕ). count w (blockRows p k)) e ∙ ap (count w) (block-all p) ∙ count-append w (rowsBy p 80) (rowsBy p 80) in
-    omega (arith, grows p w n (160 - n))
+-- where data has no octet bits, a frame's SC bits are all
+pub lsd-bits : (p : Layout) (line : List ℕ) (from a b : ℕ) → Apart p → p .columns ≡ 0 → length line ≡ 160
+    → from % 80 ≡ 0 → from + 80 ≤ 160 → a + 1 ≡ from + p .first → b ≡ from + p .last
+    → sofar p Lsd line (from + 80) ≡ sofar p Lsd line from ++ runs 7 1 line a (b - a)
+lsd-bits p line from a b h none hl hf he ha hb =
+    let after = h .after in
+    let ends = h .runs in
+    let until = h .until in
+    let nothing : (i k : ℕ) (l : List Bool) → l ++ runs (7 - p .columns) (p .columns) line i k ≡ l =
+    λ i k l. ap (λ (n : ℕ). l ++ runs (7 - n) n line i k) none ∙ ap (λ (r : List Bool). l ++ r) (no-runs 7 line i k) ∙ append-nil l in
+    lsd-without p line from b (from + 80) h hl hf he (omega arith) (omega arith) (omega arith) (inr (omega arith)) ∙ nothing b (from + 80 - b) (sofar p Lsd line b)
+    ∙ lsd-with p line from a b h hl hf he (omega arith) (omega arith) (omega arith)
+    ∙ ap (λ (n : ℕ). sofar p Lsd line a ++ runs (7 - n) (n + 1) line a (b - a)) none
+    ∙ ap (λ (l : List Bool). l ++ runs 7 1 line a (b - a))
+    (lsd-without p line from from a h hl hf he (omega arith) (omega arith) (omega arith) (inl (omega arith)) ∙ nothing from (a - from) (sofar p Lsd line from))
 
--- the bits that come with one octet more, or with some
-pub roomy : (p : Layout) (w : Owner) (line : List ℕ) (o n : ℕ) (xs : List Bool) → p .width + p .columns ≤ 7 → length line ≡ 160 → n ≤ 160
-    → sofar p w line n ≡ sofar p w line o ++ xs → length (sofar p w line o) + length xs ≤ 2 * count w (rowsBy p 80)
-roomy p w line o n xs h hl hn e =
-    let l : length (sofar p w line n) ≡ length (sofar p w line o) + length xs = ap length e ∙ length-append (sofar p w line o) xs in
-    omega (arith, l, length-sofar p w line n h (omega arith), count-le p w n hn)
+pub bits-alone : (p : Layout) → Apart p → inEights p ≡ false → p .columns ≡ 0
+bits-alone p h e = ⊎-elim (λ none. none) (λ t. absurd (false≢true (sym e ∙ t))) (h .even)
+
+-- ---- a whole block
+-- nothing, at the start
+pub none-yet : (p : Layout) (w : Owner) (line : List ℕ) → [] ≡ sofar p w line 0
+unfolding sort
+none-yet p w line = refl
+
+pub voice-all : (p : Layout) (line : List ℕ) → Apart p → length line ≡ 160
+    → runs 0 (p .width) line 0 160 ≡ sort Voice (rowsBy p 80 ++ rowsBy p 80) (bitsOf line)
+unfolding sort
+voice-all p line h hl =
+    sym (sofar-runs p Voice line 0 0 (p .width) 160 (h .within) (omega (arith, h .within)) (omega arith) (λ j l bs. sort-voice p ((0 + j) % 80 + 1) bs))
+    ∙ ap (λ (ps : List Owner). sort Voice ps (bitsOf line)) (block-all p)
+
+pub lsd-all : (p : Layout) (line : List ℕ) → Apart p → length line ≡ 160 → p .last < p .first
+    → runs (7 - p .columns) (p .columns) line 0 160 ≡ sort Lsd (rowsBy p 80 ++ rowsBy p 80) (bitsOf line)
+unfolding sort
+lsd-all p line h hl none =
+    sym (sofar-runs p Lsd line 0 (7 - p .columns) (p .columns) 160 (h .within) (omega (arith, h .within)) (omega arith)
+    (λ j l bs. sort-lsd-out p ((0 + j) % 80 + 1) bs (h .within) (outside ((0 + j) % 80 + 1) (leb ((0 + j) % 80 + 1) (p .last)) refl)))
+    ∙ ap (λ (ps : List Owner). sort Lsd ps (bitsOf line)) (block-all p)
+  where
+    outside : (o : ℕ) (b : Bool) → leb o (p .last) ≡ b → (o < p .first) ⊎ (p .last < o)
+    outside o true e = inl (omega (arith, leb-true o (p .last) e))
+    outside o false e = inr (leb-false o (p .last) e)

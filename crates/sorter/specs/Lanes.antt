@@ -1,12 +1,5 @@
 -- A number seen as lanes of equally many bits, out of which the low bits are picked. No public contract speaks of it.
-use mathlib.Core.List.{List}
 use Prim.Native.Nat.{ℕ, zero, suc, _+_, _*_, _/_, _%_, _^_}
-use lib.ListN.{getD}
-
--- k octets from octet o on as a number, the first one highest
-unfoldable pub word : List ℕ → ℕ → ℕ → ℕ
-word line o zero = 0
-word line o (suc k) = word line o k * 256 + getD line (o + k) 0 % 256
 
 -- the n low bits of each of the k low lanes of w bits, one after the other
 unfoldable pub picked : ℕ → ℕ → ℕ → ℕ → ℕ

@@ -1,3 +1,3 @@
 pub mod Sorting
-pub mod Packed
+pub mod Filled
 pub mod Lanes

@@ -2,68 +2,23 @@
 ghost use mathlib.Core.Path.{_≡_};
 ghost use mathlib.Core.Bool.{Bool, true};
 ghost use mathlib.Core.List.{List, _++_};
-ghost use Prim.Native.Nat.{ℕ, _+_, _-_, _*_, _/_, _%_, _^_, _<_, _≤_};
-ghost use lib.ListN.{length, drop, take, set, replicate};
-ghost use Rattle.bits.specs.Bits.{bitsOf, octetBits, octets, number};
-ghost use Rattle.frame.specs.Streams.{count, sort};
+ghost use Prim.Native.Nat.{ℕ, _+_, _-_, _*_, _%_, _^_, _<_, _≤_};
+ghost use lib.ListN.{length, take, replicate};
+ghost use Rattle.bits.specs.Bits.{bitsOf, octets, number};
+ghost use Rattle.frame.specs.Streams.{sort};
 ghost use Rattle.frame.specs.Block.{fitting};
-ghost use Rattle.frame.specs.Layout.{Apart, rowBy, rowsBy};
-ghost use Rattle.sorter.specs.Packed.{whose, sofar, runs, Packed, Ready};
-ghost use Rattle.sorter.specs.Lanes.{word, picked, units};
+ghost use Rattle.frame.specs.Layout.{Apart, rowsBy, inEights};
+ghost use Rattle.modes.specs.declared.Owner.the-variants.{Voice, Lsd};
+ghost use Rattle.sorter.specs.Filled.{sofar, runs, Filled};
+ghost use Rattle.sorter.specs.Lanes.{picked, units};
 ghost use Rattle.sorter.specs.Sorting.{voiceAfter, lsdAfter};
 use frame::Layout;
 use modes::Mode;
-
-// The two streams that are handed out.
-enum Stream {
-    Voice,
-    Lsd,
-}
 
 // The bits of an octet that a stream holds, which stand together: `bits` of them after the first `start`.
 struct Run {
     start: usize,
     bits: usize,
-}
-
-// Bits on their way into a buffer: `at` octets are written, and `held` bits, fewer than eight, wait as a number.
-struct Queue {
-    at: usize,
-    held: usize,
-    waiting: usize,
-}
-
-// The run of a stream in octet o + 1 of a frame. The SC bit is the last of an octet, so data's goes on into it.
-fn run_of(p: Layout, t: Stream, o: usize) -> Run
-    requires { ⌜ (o < 80) × Apart p ⌝ }
-    ensures { λ r. ⌜ (r .start + r .bits ≤ 8) × ((bs : List Bool) → sort (whose t) (rowBy p (o + 1)) bs ≡ take (r .bits) (drop (r .start) bs)) ⌝ }
-{
-    let w = p.width as usize;
-    let c = p.columns as usize;
-    let first = p.first as usize;
-    let last = p.last as usize;
-    match t {
-        Stream::Voice => Run { start: 0, bits: w },
-        Stream::Lsd => {
-            let start = 7 - c;
-            if o + 1 < first {
-                return Run {
-                    start: start,
-                    bits: c,
-                };
-            }
-            if last < o + 1 {
-                return Run {
-                    start: start,
-                    bits: c,
-                };
-            }
-            Run {
-                start: start,
-                bits: c + 1,
-            }
-        }
-    }
 }
 
 // Zero to the bit, before anything is packed: so what is past the end of the stream's bits is zero.
@@ -77,81 +32,11 @@ pub fn clear(out: &mut [u8])
     }
 }
 
-// The number that a run of an octet's bits spells.
-fn taken(r: Run, x: u8) -> usize
-    requires { ⌜ r .start + r .bits ≤ 8 ⌝ }
-    ensures { λ n. ⌜ n ≡ number (take (r .bits) (drop (r .start) (octetBits x))) ⌝ }
-{
-    let octet = x as usize;
-    let bits = r.bits;
-    let start = r.start;
-    (octet >> (8 - (start + bits))) % (1 << bits)
-}
-
-// n bits more, eight at most, as the number x: where eight are there, the first eight of them are written.
-fn push(out: &mut [u8], q: Queue, n: usize, x: usize) -> Queue
-    requires { ⌜ (q .held < 8) × (q .waiting < 2 ^ (q .held)) × (n ≤ 8) × (x < 2 ^ n) × (q .at * 8 + q .held + n ≤ length (now out) * 8) ⌝ }
-    ensures { λ r. ⌜ ((bs xs : List Bool) (was : List ℕ) → Packed bs was (now (out .entry)) q → length xs ≡ n → number xs ≡ x → Packed (bs ++ xs) was (now (out .exit)) r) ⌝ }
-{
-    let at = q.at;
-    let held = q.held + n;
-    let waiting = (q.waiting << n) + x;
-    if held < 8 {
-        return Queue {
-            at: at,
-            held: held,
-            waiting: waiting,
-        };
-    }
-    let left = held - 8;
-    out[at] = (waiting >> left) as u8;
-    Queue {
-        at: at + 1,
-        held: left,
-        waiting: waiting % (1 << left),
-    }
-}
-
-// The bits that still wait, with zeros after them up to the octet's end.
-fn finish(out: &mut [u8], q: Queue)
-    requires { ⌜ (q .held < 8) × (q .waiting < 2 ^ (q .held)) × (q .at * 8 + q .held ≤ length (now out) * 8) ⌝ }
-    ensures { λ _. ⌜ ((bs : List Bool) → Packed bs (replicate (length (now (out .entry))) 0) (now (out .entry)) q → now (out .exit) ≡ octets (length (now (out .entry))) bs) ⌝ }
-{
-    let at = q.at;
-    let held = q.held;
-    if 0 < held {
-        out[at] = (q.waiting << (8 - held)) as u8;
-    }
-}
-
-// Whether a stream has one run in all of octets o + 1 to o + 8 of a frame.
-fn alike(p: Layout, t: Stream, o: usize) -> bool
-    requires { ⌜ Apart p ⌝ }
-    ensures { λ r. ⌜ (r ≡ true → (k : ℕ) → k < 8 → (bs : List Bool) → sort (whose t) (rowBy p (o + k + 1)) bs ≡ sort (whose t) (rowBy p (o + 1)) bs) ⌝ }
-{
-    match t {
-        Stream::Voice => true,
-        Stream::Lsd => frame::uncut(p, o),
-    }
-}
-
-// An octet as a wide number; its bound is what the sum of `word_at` needs.
+// An octet as a wide number; its bound is what a sum needs.
 fn wide(octet: u8) -> usize
     ensures { λ r. ⌜ (r ≡ octet) × (r < 256) ⌝ }
 {
     octet as usize
-}
-
-// Eight octets as one number, the first one highest: compiled, it is read at once.
-fn word_at(line: &[u8], o: usize) -> usize
-    requires { ⌜ o + 8 ≤ length (now line) ⌝ }
-    ensures { λ r. ⌜ r ≡ word (now (line .entry)) o 8 ⌝ }
-{
-    let mut x = 0;
-    for k in 0..8 {
-        x = x * 256 + wide(line[o + k]);
-    }
-    x
 }
 
 // n ones.
@@ -181,119 +66,163 @@ fn gathered(line: &[u8], o: usize, run: Run) -> usize
     let one = run.bits;
     let two = one + one;
     let four = two + two;
-    let octets = word_at(line, o) >> (8 - (start + one));
+    let octets = bits::whole_eight_at(line, o) >> (8 - (start + one));
     let twos = joined(octets, 0x0001000100010001, 8, one);
     let fours = joined(twos, 0x0000000100000001, 16, two);
     joined(fours, 1, 32, four)
 }
 
-// The four octets of a number's 32 low bits, the highest first: compiled, they are written at once.
-fn put_four(out: &mut [u8], at: usize, x: usize)
-    requires { ⌜ at + 4 ≤ length (now out) ⌝ }
-    ensures { λ _. ⌜ now (out .exit) ≡ set (set (set (set (now (out .entry)) at (x / 2 ^ 24 % 256)) (at + 1) (x / 2 ^ 16 % 256)) (at + 2) (x / 2 ^ 8 % 256)) (at + 3) (x % 256) ⌝ }
+// The first n of a number's eight octets, the highest first. The loop has a fixed length, so that it is compiled without one: all eight are
+// written at once.
+fn put(out: &mut [u8], at: usize, n: usize, x: usize)
+    requires { ⌜ (n ≤ 8) × (at + n ≤ length (now out)) ⌝ }
+    ensures { λ _. ⌜ ((bs xs : List Bool) → length xs ≡ 64 → number xs ≡ x → Filled bs (at * 8) (now (out .entry)) → now (out .exit) ≡ octets (length (now (out .entry))) (bs ++ take (8 * n) xs)) ⌝ }
 {
-    out[at] = ((x >> 24) % 256) as u8;
-    out[at + 1] = ((x >> 16) % 256) as u8;
-    out[at + 2] = ((x >> 8) % 256) as u8;
-    out[at + 3] = (x % 256) as u8;
-}
-
-// Four to eight octets more as the number x, where nothing waits: the first four and the last four, some of them maybe twice.
-fn put_many(out: &mut [u8], q: Queue, n: usize, x: usize) -> Queue
-    requires { ⌜ (q .held ≡ 0) × (4 ≤ n) × (n ≤ 8) × (q .at + n ≤ length (now out)) ⌝ }
-    ensures { λ r. ⌜ ((bs xs : List Bool) (was : List ℕ) → Packed bs was (now (out .entry)) q → length xs ≡ 8 * n → number xs ≡ x → Packed (bs ++ xs) was (now (out .exit)) r) ⌝ }
-{
-    let at = q.at;
-    put_four(out, at, x >> (8 * (n - 4)));
-    put_four(out, at + (n - 4), x);
-    Queue {
-        at: at + n,
-        held: 0,
-        waiting: 0,
-    }
-}
-
-// Up to three octets more as the number x, where nothing waits, the highest first.
-// The loop has a fixed length, so that it is compiled without one.
-fn put_few(out: &mut [u8], q: Queue, n: usize, x: usize) -> Queue
-    requires { ⌜ (q .held ≡ 0) × (n ≤ 3) × (q .at + n ≤ length (now out)) ⌝ }
-    ensures { λ r. ⌜ ((bs xs : List Bool) (was : List ℕ) → Packed bs was (now (out .entry)) q → length xs ≡ 8 * n → number xs ≡ x → Packed (bs ++ xs) was (now (out .exit)) r) ⌝ }
-{
-    let at = q.at;
-    for j in 0..3 {
-        if j < n {
-            out[at + j] = ((x >> (8 * (n - 1 - j))) % 256) as u8;
-        }
-    }
-    Queue {
-        at: at + n,
-        held: 0,
-        waiting: 0,
-    }
-}
-
-// n octets more, eight at most, as the number x: where nothing waits they are written as they are.
-fn put_octets(out: &mut [u8], q: Queue, n: usize, x: usize) -> Queue
-    requires { ⌜ (q .held ≡ 0) × (n ≤ 8) × (q .at + n ≤ length (now out)) ⌝ }
-    ensures { λ r. ⌜ ((bs xs : List Bool) (was : List ℕ) → Packed bs was (now (out .entry)) q → length xs ≡ 8 * n → number xs ≡ x → Packed (bs ++ xs) was (now (out .exit)) r) ⌝ }
-{
-    if n < 4 {
-        return put_few(out, q, n, x);
-    }
-    put_many(out, q, n, x)
-}
-
-// Eight octets of a block, one by one: their runs may differ, and bits may wait.
-fn push_eight(line: &[u8], p: Layout, t: Stream, o: usize, out: &mut [u8], from: Queue) -> Queue
-    requires { ⌜ Ready p t (now line) o (now out) from ⌝ }
-    ensures { λ r. ⌜ ((was : List ℕ) → Packed (sofar p (whose t) (now (line .entry)) o) was (now (out .entry)) from → Packed (sofar p (whose t) (now (line .entry)) (o + 8)) was (now (out .exit)) r) ⌝ }
-{
-    let mut q = from;
     for k in 0..8 {
-        let run = run_of(p, t, (o + k) % 80);
-        let n = run.bits;
-        q = push(out, q, n, taken(run, line[o + k]));
-    }
-    q
-}
-
-// Eight octets of a block, together where it can be: eight runs of n bits are n octets, and where nothing waits they need no queue.
-fn sort_eight(line: &[u8], p: Layout, t: Stream, o: usize, out: &mut [u8], q: Queue) -> Queue
-    requires { ⌜ o % 8 ≡ 0 ⌝ }
-    requires { ⌜ Ready p t (now line) o (now out) q ⌝ }
-    ensures { λ r. ⌜ ((was : List ℕ) → Packed (sofar p (whose t) (now (line .entry)) o) was (now (out .entry)) q → Packed (sofar p (whose t) (now (line .entry)) (o + 8)) was (now (out .exit)) r) ⌝ }
-{
-    if alike(p, t, o % 80) {
-        let run = run_of(p, t, o % 80);
-        let n = run.bits;
-        if n == 0 {
-            return q;
-        }
-        if q.held == 0 {
-            return put_octets(out, q, n, gathered(line, o, run));
+        if k < n {
+            out[at + k] = ((x >> (8 * (7 - k))) % 256) as u8;
         }
     }
-    push_eight(line, p, t, o, out, q)
 }
 
-// A stream's bits out of a block, packed from the front of a buffer that has room for them, and zeros after them.
-fn sort_stream(line: &[u8], p: Layout, t: Stream, out: &mut [u8])
-    requires { ⌜ Apart p ⌝ }
-    requires { ⌜ (length (now line) ≡ 160) × (2 * count (whose t) (rowsBy p 80) ≤ length (now out) * 8) ⌝ }
-    ensures { λ _. ⌜ now (out .exit) ≡ octets (length (now (out .entry))) (sort (whose t) (rowsBy p 80 ++ rowsBy p 80) (bitsOf (now (line .entry)))) ⌝ }
+// n octets more, as the number x, behind the first `at`. All eight from there on are written: those after the n are zero, as they were, and
+// those past the buffer's end are left out.
+fn append(out: &mut [u8], at: usize, n: usize, x: usize)
+    requires { ⌜ (at ≤ 160) × (0 < n) × (n ≤ 8) ⌝ }
+    ensures { λ _. ⌜ ((bs xs : List Bool) → length xs ≡ 8 * n → number xs ≡ x → Filled bs (at * 8) (now (out .entry)) → Filled (bs ++ xs) ((at + n) * 8) (now (out .exit))) ⌝ }
 {
-    clear(out);
-    let mut q = Queue {
-        at: 0,
-        held: 0,
-        waiting: 0,
-    };
-    let mut o = 0;
-    while o < 160 {
-        q = sort_eight(line, p, t, o, out, q);
+    let eight = x << (8 * (8 - n));
+    if at + 8 <= out.len() {
+        put(out, at, 8, eight);
+        return;
+    }
+    if at < out.len() {
+        put(out, at, out.len() - at, eight);
+    }
+}
+
+// One bit more behind the first `done`.
+fn append_bit(out: &mut [u8], done: usize, bit: usize)
+    requires { ⌜ (done < length (now out) * 8) × (bit < 2) ⌝ }
+    ensures { λ _. ⌜ ((bs xs : List Bool) → length xs ≡ 1 → number xs ≡ bit → Filled bs done (now (out .entry)) → Filled (bs ++ xs) (done + 1) (now (out .exit))) ⌝ }
+{
+    let i = done / 8;
+    out[i] = ((wide(out[i]) + (bit << (7 - done % 8))) % 256) as u8;
+}
+
+// Octets from + 1 to `to` of a block, eight by eight: in all of them the stream has one run, and eight runs of n bits are n octets.
+// The answer is how many octets the buffer then has.
+fn sort_run(line: &[u8], from: usize, to: usize, run: Run, out: &mut [u8], start: usize) -> usize
+    requires { ⌜ (run .start + run .bits ≤ 8) × (from ≤ to) × (to ≤ length (now line)) × (to ≤ 160) × ((to - from) % 8 ≡ 0) × (start ≤ from) ⌝ }
+    ensures { λ r. ⌜ (r ≤ to) × ((bs : List Bool) → Filled bs (start * 8) (now (out .entry)) → Filled (bs ++ runs (run .start) (run .bits) (now (line .entry)) from (to - from)) (r * 8) (now (out .exit))) ⌝ }
+{
+    let n = run.bits;
+    if n == 0 {
+        return start;
+    }
+    let mut at = start;
+    let mut o = from;
+    while o < to {
+        append(out, at, n, gathered(line, o, run));
+        at += n;
         o += 8;
     }
-    finish(out, q);
+    at
+}
+
+// The last bit of each of octets from + 1 to `to` of a block, one by one. The answer is how many bits the buffer then has.
+fn sort_bits(line: &[u8], from: usize, to: usize, out: &mut [u8], start: usize) -> usize
+    requires { ⌜ (from ≤ to) × (to ≤ length (now line)) × (to ≤ length (now out) * 8) × (to ≤ 160) × (start ≤ from) ⌝ }
+    ensures { λ r. ⌜ (r ≤ to) × ((bs : List Bool) → Filled bs start (now (out .entry)) → Filled (bs ++ runs 7 1 (now (line .entry)) from (to - from)) r (now (out .exit))) ⌝ }
+{
+    let mut done = start;
+    let mut o = from;
+    while o < to {
+        append_bit(out, done, wide(line[o]) % 2);
+        done += 1;
+        o += 1;
+    }
+    done
+}
+
+// A stream that has one run in every octet of a block.
+fn sort_columns(line: &[u8], run: Run, out: &mut [u8])
+    requires { ⌜ (run .start + run .bits ≤ 8) × (length (now line) ≡ 160) ⌝ }
+    ensures { λ _. ⌜ now (out .exit) ≡ octets (length (now (out .entry))) (runs (run .start) (run .bits) (now (line .entry)) 0 160) ⌝ }
+{
+    clear(out);
+    sort_run(line, 0, 160, run, out, 0);
+}
+
+// Voice out of a block.
+fn sort_voice(line: &[u8], p: Layout, out: &mut [u8])
+    requires { ⌜ Apart p ⌝ }
+    requires { ⌜ length (now line) ≡ 160 ⌝ }
+    ensures { λ _. ⌜ now (out .exit) ≡ octets (length (now (out .entry))) (sort Voice (rowsBy p 80 ++ rowsBy p 80) (bitsOf (now (line .entry)))) ⌝ }
+{
+    let w = p.width as usize;
+    let run = Run { start: 0, bits: w };
+    sort_columns(line, run, out);
+}
+
+// Data out of the frame that follows octet `from`, where its SC octets are whole eights: in these the run goes on into the SC bit, which is
+// an octet's last, and in the octets before and after them it does not. The answer is how many octets the buffer then has.
+fn sort_frame(line: &[u8], p: Layout, from: usize, out: &mut [u8], start: usize) -> usize
+    requires { ⌜ Apart p ⌝ }
+    requires { ⌜ (inEights p ≡ true) × (length (now line) ≡ 160) × (from % 80 ≡ 0) × (from + 80 ≤ 160) × (start ≤ from) ⌝ }
+    ensures { λ r. ⌜ (r ≤ from + 80) × (Filled (sofar p Lsd (now (line .entry)) from) (start * 8) (now (out .entry)) → Filled (sofar p Lsd (now (line .entry)) (from + 80)) (r * 8) (now (out .exit))) ⌝ }
+{
+    let c = p.columns as usize;
+    let first = p.first as usize;
+    let last = p.last as usize;
+    let bit = 7 - c;
+    let without = Run {
+        start: bit,
+        bits: c,
+    };
+    let with_sc = Run {
+        start: bit,
+        bits: c + 1,
+    };
+    let before = sort_run(line, from, from + (first - 1), without, out, start);
+    let inside = sort_run(line, from + (first - 1), from + last, with_sc, out, before);
+    sort_run(line, from + last, from + 80, without, out, inside)
+}
+
+// Data that has SC octets, out of a block: by runs, or, where they are no whole eights and so are all that it has, bit by bit.
+fn sort_with_sc(line: &[u8], p: Layout, out: &mut [u8])
+    requires { ⌜ Apart p ⌝ }
+    requires { ⌜ (length (now line) ≡ 160) × (20 ≤ length (now out)) ⌝ }
+    ensures { λ _. ⌜ now (out .exit) ≡ octets (length (now (out .entry))) (sort Lsd (rowsBy p 80 ++ rowsBy p 80) (bitsOf (now (line .entry)))) ⌝ }
+{
+    clear(out);
+    if frame::in_eights(p) {
+        let half = sort_frame(line, p, 0, out, 0);
+        sort_frame(line, p, 80, out, half);
+        return;
+    }
+    let first = p.first as usize;
+    let last = p.last as usize;
+    let half = sort_bits(line, first - 1, last, out, 0);
+    sort_bits(line, first + 79, last + 80, out, half);
+}
+
+// Data out of a block: where it has no SC octets, one run in every octet is all.
+fn sort_lsd(line: &[u8], p: Layout, out: &mut [u8])
+    requires { ⌜ Apart p ⌝ }
+    requires { ⌜ (length (now line) ≡ 160) × (20 ≤ length (now out)) ⌝ }
+    ensures { λ _. ⌜ now (out .exit) ≡ octets (length (now (out .entry))) (sort Lsd (rowsBy p 80 ++ rowsBy p 80) (bitsOf (now (line .entry)))) ⌝ }
+{
+    let c = p.columns as usize;
+    let run = Run {
+        start: 7 - c,
+        bits: c,
+    };
+    if p.last < p.first {
+        sort_columns(line, run, out);
+        return;
+    }
+    sort_with_sc(line, p, out);
 }
 
 // Voice and data of a block under a mode, each into its own buffer, which is zero past the stream's end.
@@ -307,7 +236,7 @@ pub fn hand_out(line: &[u8], mode: Mode, voice: &mut [u8], lsd: &mut [u8]) -> bo
         return false;
     }
     let p = frame::layout_of(mode);
-    sort_stream(line, p, Stream::Voice, voice);
-    sort_stream(line, p, Stream::Lsd, lsd);
+    sort_voice(line, p, voice);
+    sort_lsd(line, p, lsd);
     true
 }

@@ -10,6 +10,7 @@ use Rattle.bits.specs.Bits.{lowBits, bitsOf}
 use Rattle.bits.proofs.BitLaws.{length-lowBits}
 use Rattle.frame.specs.Block.{heard, streams}
 use Rattle.frame.specs.Layout.{frameBy}
+use Rattle.frame.proofs.LayoutLaws.{eights-through}
 use Rattle.frame.proofs.WrittenLaws.{second-half, two-frames, even-half, odd-half}
 use borrow.Author.Needs.{needs}
 use Rattle.frame.proofs.fill_block.Statement.{statement}
@@ -52,7 +53,21 @@ mul-write-frame : tie.Need-mul-write-frame
 mul-write-frame c = search needs
 
 write-frame-requires-2 : tie.Need-write-frame-requires-2
-write-frame-requires-2 c κs = search needs
+write-frame-requires-2 c κs =
+    let s = c .before .before .before .before .before .before .before .before .before .before .before in
+    let sc-is = c .before .before .before .before .before .sc-before .ensures in
+    let ready = s .pre .1 in (
+      search needs,
+      record {
+        apart = ready .apart;
+        spoken = ready .spoken;
+        given = ready .given;
+        from = omega (arith, ready .apart .within);
+        whole = omega arith;
+        on = omega (arith, sc-is, ready .apart .within, ready .apart .after, ready .apart .until);
+        begun = λ e. rw sc-is (eights-through (s .args .p) (ready .apart) e);
+      },
+    )
 
 same-length : tie.Need-same-length
 same-length c = search needs

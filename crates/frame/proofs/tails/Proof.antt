@@ -1,63 +1,129 @@
--- `frame::tails` meets its contract: the laws of the last bits, in each of the three cases.
-use mathlib.Core.Path.{_≡_, _∙_}
-use Prim.Native.Nat.{_+_, _*_}
+-- `frame::tails` meets its contract: a law for each run.
+use mathlib.Core.Path.{refl, _∙_}
+use Prim.Native.Nat.{_+_, _-_, _/_, _≤_}
 use native.Mathlib.Omega.{arith}
-use Rattle.frame.specs.Eight.{eights, tailOf, dataBits}
-use Rattle.frame.proofs.WordLaws.{tails-lt, tails-owned, tails-free, tails-none}
+use denote.Ref.{now}
+use lib.ListN.{getD, drop}
+use Rattle.bits.specs.Bits.{lowBits, bitsOf}
+use Rattle.frame.specs.Eight.{wordAt, tailAt}
+use Rattle.frame.proofs.TailLaws.{by-runs, columns-to, columns-le, laid-before, laid-after}
 use borrow.Author.Needs.{needs}
 use Rattle.frame.proofs.tails.Statement.{statement}
 use Rattle.frame.proofs.tails.Tie as tie
 
-sum : (c : tie.After-spread3) → (let a = c .before .before .before .before .args in c .spread3 .result * 2 + c .before .before .spread2 .result ≡ eights (tailOf (a .c) (a .e)))
-sum c =
-    let s = c .before .before .before in
-    let a = s .before .args in
-    rw (c .spread3 .ensures, c .before .before .spread2 .ensures) (tails-free (a .c) (a .e) (s .if1 .left))
+cast-c : tie.Need-cast-c
+cast-c c = search needs
 
-add-spread : tie.Need-add-spread
-add-spread c = search needs
+cast-a : tie.Need-cast-a
+cast-a c = search needs
 
-spread-requires : tie.Need-spread-requires
-unfolding dataBits
-spread-requires c κs = (omega arith, rw (c .if1 .taken) at (c .before .pre .1))
+sub-a : tie.Need-sub-a
+sub-a c = search needs
+
+cast-b : tie.Need-cast-b
+cast-b c = search needs
+
+add-b : tie.Need-add-b
+add-b c = search needs
+
+first-eights-requires : tie.Need-first-eights-requires
+first-eights-requires c κs = search needs
+
+mul-lay : tie.Need-mul-lay
+mul-lay c = search needs
+
+add-lay : tie.Need-add-lay
+add-lay c = search needs
+
+lay-requires : tie.Need-lay-requires
+lay-requires c κs =
+    let s = c .before .before .before .before .before .before .before .before .before .before in
+    let p = s .args .p in
+    let a = (p .first - 1) / 8 in
+    let two : 2 ≤ a = omega (arith, s .pre .1 .0 .after) in
+    let ten : a ≤ 10 = omega (arith, s .pre .1 .0 .runs, s .pre .1 .0 .until) in (
+      (c .before .before .before .first-eights .kept .0 ∙ s .pre .0, two, ten, omega arith, omega arith),
+      omega (arith, columns-to (p .columns) 2 a two, columns-le (p .columns) a (omega arith) ten),
+    )
+
+own-eights-requires : tie.Need-own-eights-requires
+own-eights-requires c κs = search needs
+
+mul-lay-2 : tie.Need-mul-lay-2
+mul-lay-2 c =
+    let s = c .before .before .before .before .before .before .before .before .before .before .before .before .before .before .before .before .before .before in
+    let p = s .args .p in
+    let b = (p .last + 7) / 8 in
+    omega (arith, columns-le (p .columns) b (omega arith) (omega arith))
+
+add-lay-2 : tie.Need-add-lay-2
+add-lay-2 c =
+    let s = c .before .before .before .before .before .before .before .before .before .before .before .before .before .before .before .before .before .before in
+    let p = s .args .p in
+    let b = (p .last + 7) / 8 in
+    omega (arith, columns-le (p .columns) b (omega arith) (omega arith))
+
+sub-lay : tie.Need-sub-lay
+sub-lay c = search needs
+
+add-lay-3 : tie.Need-add-lay-3
+add-lay-3 c =
+    let s = c .before .before .before .before .before .before .before .before .before .before .before .before .before .before .before .before .before .before in
+    let p = s .args .p in
+    let b = (p .last + 7) / 8 in
+    omega (arith, columns-le (p .columns) b (omega arith) (omega arith))
+
+lay-requires-2 : tie.Need-lay-requires-2
+lay-requires-2 c κs =
+    let s = c .before .before .before .before .before .before .before .before .before .before .before .before .before .before .before .before .before .before in
+    let p = s .args .p in
+    let b = (p .last + 7) / 8 in
+    let ten : b ≤ 10 = omega (arith, s .pre .1 .0 .until) in (
+      (c .before .before .before .own-eights .kept .0 ∙ c .before .before .before .before .before .before .before .lay .kept .0 ∙ c .before .before .before .before .before .before .before .before .before .before .before .first-eights .kept .0 ∙ s .pre .0, ten, omega arith, omega arith, omega arith),
+      omega (arith, s .pre .1 .0 .after, columns-to (p .columns) b 10 ten),
+    )
+
+same-length : tie.Need-same-length
+same-length c = search needs
 
 returns : tie.Need-returns
-returns c = let a = c .before .before .args in c .spread .ensures ∙ tails-owned (a .c) (a .e) (c .before .if1 .taken)
-
-spread-requires-2 : tie.Need-spread-requires-2
-spread-requires-2 c κs = search needs
-
-returns-2 : tie.Need-returns-2
-returns-2 c =
-    let s = c .before .before in
-    let a = s .before .args in
-    c .before .spread2 .ensures ∙ tails-none (a .c) (a .e) (s .if1 .left) (omega arith)
-
-spread-requires-3 : tie.Need-spread-requires-3
-unfolding dataBits
-spread-requires-3 c κs =
-    let s = c .before .before in
-    (omega arith, rw (s .if1 .left) at (s .before .pre .1))
-
-mul-result : tie.Need-mul-result
-mul-result c = let a = c .before .before .before .before .args in omega (arith, sum c, tails-lt (a .c) (a .e) (omega arith))
-
-add-result : tie.Need-add-result
-add-result c = let a = c .before .before .before .before .args in omega (arith, sum c, tails-lt (a .c) (a .e) (omega arith))
-
-returns-3 : tie.Need-returns-3
-returns-3 c = sum c
+returns c =
+    let s = c .before .before .before .before .before .before .before .before .before .before .before .before .before .before .before .before .before .before .before .before .before in
+    let ok = s .pre .1 .0 in
+    let p = s .args .p in
+    let d = s .args .d in
+    let a = (p .first - 1) / 8 in
+    let b = (p .last + 7) / 8 in
+    let bs = lowBits 16 (s .args .service) in
+    let bits = bitsOf (now (s .args .lsd)) in
+    let first = c .before .before .before .before .before .before .before .before .before .before .before .before .before .before .first-eights .ensures in
+    let before = c .before .before .before .before .before .before .before .before .before .before .lay .ensures in
+    let own = c .before .before .before .before .before .before .own-eights .ensures in
+    let after = c .before .before .lay2 .ensures in
+    by-runs (λ k. getD (c .before .before .lay2 .last .0) k 0) (wordAt (tailAt p bs (drop d bits))) a b
+    (λ k l. after .0 k (omega (arith, ok .after, ok .runs)) ∙ own .0 k (omega (arith, ok .after)) ∙ before .0 k l ∙ first k l)
+    (λ k l m. after .0 k (omega (arith, ok .runs)) ∙ own .0 k m ∙ before .1 k l m ∙ laid-before p bs bits a k d ok (s .pre .1 .1 .2) refl l m)
+    (λ k l m. after .0 k m ∙ own .1 bs k l m)
+    (λ k l m. after .1 k l m ∙ laid-after p bs bits a b k d ok (s .pre .1 .1 .2) refl refl l)
 
 pub tails-spec : {M : Type 1} → statement M
 tails-spec =
     tie.close
     (tie.spec
-    add-spread
-    spread-requires
-    returns
-    spread-requires-2
-    returns-2
-    spread-requires-3
-    mul-result
-    add-result
-    returns-3)
+    cast-c
+    cast-a
+    sub-a
+    cast-b
+    add-b
+    first-eights-requires
+    mul-lay
+    add-lay
+    lay-requires
+    own-eights-requires
+    mul-lay-2
+    add-lay-2
+    sub-lay
+    add-lay-3
+    lay-requires-2
+    same-length
+    returns)

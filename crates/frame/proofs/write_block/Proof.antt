@@ -1,5 +1,5 @@
 -- `frame::write_block` meets its contract: by whether the lengths fit, and by the block's law.
-use mathlib.Core.Path.{sym, ap₂, _∙_}
+use mathlib.Core.Path.{refl, sym, ap₂, _∙_}
 use mathlib.Core.Bool.{Bool, true, false}
 use mathlib.Core.List.{List, _++_}
 use Prim.Native.Nat.{_+_}
@@ -42,6 +42,7 @@ fill-block-requires c κs =
         from = omega arith;
         whole = omega arith;
         on = omega arith;
+        begun = λ e. refl;
       },
     )
 

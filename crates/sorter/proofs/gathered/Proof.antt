@@ -4,6 +4,8 @@ use native.Mathlib.Omega.{arith}
 use mathlib.Core.Path.{refl, sym, ap, _∙_}
 use Prim.Native.Nat.{ℕ, _+_, _-_, _/_, _^_, _≤_, _<_}
 use denote.Ref.{now}
+use borrow.Author.Tests.{le-leb}
+use lib.ListN.{length}
 use lib.Dec.{lit<}
 use lib.Pow.{pow-mono, pow-pos}
 use Rattle.sorter.specs.Lanes.{picked, units}
@@ -17,8 +19,8 @@ add-two c = search needs
 add-four : tie.Need-add-four
 add-four c = search needs
 
-word-at-requires : tie.Need-word-at-requires
-word-at-requires c κs = search needs
+whole-eight-at-requires : tie.Need-whole-eight-at-requires
+whole-eight-at-requires c κs = search needs
 
 add-octets : tie.Need-add-octets
 add-octets c = search needs
@@ -63,7 +65,8 @@ returns c =
     ∙ c .joined3 .ensures .1 1 refl
     ∙ c .before .joined2 .ensures .1 2 refl
     ∙ c .before .before .joined .ensures .1 4 refl
-    ∙ ap (λ (x : ℕ). picked 8 n 8 (x / 2 ^ (8 - (s + n)))) (c .before .before .before .word-at .ensures)
+    ∙ ap (λ (x : ℕ). picked 8 n 8 (x / 2 ^ (8 - (s + n))))
+    (rw (le-leb (a .o + 8) (length line) (omega arith)) at (c .before .before .before .whole-eight-at .ensures))
     ∙ picked-runs s n line (a .o) 8 (omega arith)
 
 pub gathered-spec : {M : Type 1} → statement M
@@ -72,7 +75,7 @@ gathered-spec =
     (tie.spec
     add-two
     add-four
-    word-at-requires
+    whole-eight-at-requires
     add-octets
     sub-octets
     shr-octets

@@ -1,4 +1,4 @@
--- `sorter::hand_out` meets its contract: where a length is wrong nothing was touched, and else each buffer has room for its stream.
+-- `sorter::hand_out` meets its contract: where a length is wrong nothing was touched, and else each buffer holds its stream.
 use borrow.Author.Needs.{needs}
 use borrow.Author.Tests.{not-true, not-false}
 use native.Mathlib.Omega.{arith}
@@ -16,7 +16,7 @@ use Rattle.frame.specs.Streams.{sort}
 use Rattle.frame.specs.Block.{places, fitting}
 use Rattle.frame.specs.Layout.{Apart, layoutOf, rowsBy}
 use Rattle.frame.specs.declared.Layout.{Layout}
-use Rattle.frame.proofs.LayoutLaws.{rows-are, apart-of, count-voice, count-lsd}
+use Rattle.frame.proofs.LayoutLaws.{rows-are, apart-of}
 use Rattle.frame.proofs.BlockLaws.{lengths}
 use Rattle.sorter.specs.Sorting.{sortedOf, voiceAfter, lsdAfter}
 use Rattle.sorter.proofs.hand_out.Statement.{statement}
@@ -58,21 +58,21 @@ returns c =
 layout-of-requires : tie.Need-layout-of-requires
 layout-of-requires c κs = search needs
 
-sort-stream-requires : tie.Need-sort-stream-requires
-sort-stream-requires c κs =
+sort-voice-requires : tie.Need-sort-voice-requires
+sort-voice-requires c κs =
     let a = c .before .before .before .before .before .before .before .args in
     let fit = lengths _ _ _ (sym (c .before .before .before .lengths-fit .ensures) ∙ not-false _ (c .before .before .if1 .left)) in
     let l = c .before .layout-of in
     let apart = apart-by (a .mode) (l .result) (l .ensures) in
-    (apart, (fit .0, omega (arith, fit .1, count-voice (l .result) 80, apart .within)))
+    (apart, fit .0)
 
-sort-stream-requires-2 : tie.Need-sort-stream-requires-2
-sort-stream-requires-2 c κs =
+sort-lsd-requires : tie.Need-sort-lsd-requires
+sort-lsd-requires c κs =
     let a = c .before .before .before .before .before .before .before .before .before .before .before .args in
     let fit = lengths _ _ _ (sym (c .before .before .before .before .before .before .before .lengths-fit .ensures) ∙ not-false _ (c .before .before .before .before .before .before .if1 .left)) in
     let l = c .before .before .before .before .before .layout-of in
     let apart = apart-by (a .mode) (l .result) (l .ensures) in
-    (apart, (fit .0, omega (arith, fit .2, count-lsd (l .result) 80 apart, apart .within, apart .after, apart .until)))
+    (apart, (fit .0, omega (arith, fit .2)))
 
 same-length : tie.Need-same-length
 same-length c = search needs
@@ -89,8 +89,8 @@ returns-2 c =
     sym (c .before .before .before .before .before .before .before .before .before .before .lengths-fit .ensures) ∙ not-false _ (c .before .before .before .before .before .before .before .before .before .if1 .left) in
     let fit = lengths _ _ _ yes in
     written (a .mode) (now (a .line)) (now (a .voice)) (now (a .lsd)) _ _ yes
-    (by-owner (a .mode) (l .result) Voice _ 140 (now (a .line)) _ (l .ensures) (fit .1) (c .before .before .before .before .before .before .sort-stream .ensures))
-    (by-owner (a .mode) (l .result) Lsd _ 156 (now (a .line)) _ (l .ensures) (fit .2) (c .before .before .sort-stream2 .ensures))
+    (by-owner (a .mode) (l .result) Voice _ 140 (now (a .line)) _ (l .ensures) (fit .1) (c .before .before .before .before .before .before .sort-voice .ensures))
+    (by-owner (a .mode) (l .result) Lsd _ 156 (now (a .line)) _ (l .ensures) (fit .2) (c .before .before .sort-lsd .ensures))
 
 pub hand-out-spec : {M : Type 1} → statement M
 hand-out-spec =
@@ -99,8 +99,8 @@ hand-out-spec =
     lengths-fit-requires
     returns
     layout-of-requires
-    sort-stream-requires
-    sort-stream-requires-2
+    sort-voice-requires
+    sort-lsd-requires
     same-length
     same-length-2
     returns-2)

@@ -1,0 +1,238 @@
+-- The octets of a frame in two parts, voice with nobody's ones and data with the SC bit; eight octets of each part as one number.
+use mathlib.Core.Path.{_≡_, ap, sym, _∙_}
+use mathlib.Core.Logic.{_⊎_, inl, inr}
+use mathlib.Core.Bool.{Bool, true, false, _||_}
+use mathlib.Core.List.{List, []}
+use Prim.Native.Nat.{ℕ, _+_, _-_, _*_, _^_, _≤_, _<_}
+use native.Mathlib.Nat.{add-mul, mul-add, mul-assoc, mul-one, zero-mul, zero-add, add-zero}
+use native.Mathlib.Omega.{arith}
+use borrow.Author.Tests.{eqb-true}
+use lib.Dec.{eqb}
+use lib.Pow.{pow-add, pow-pos}
+use lib.ListN.{length, getD, take, drop, length-drop}
+use lib.Seq.{drop-nil, drop-drop, length-take-le, getD-take, getD-drop, ext-getD}
+use Rattle.bits.specs.Bits.{number, digit}
+use Rattle.bits.proofs.BitLaws.{number-append}
+use Rattle.bits.proofs.PackLaws.{length-octets}
+use Rattle.bits.proofs.Table.{entry}
+use Rattle.frame.specs.Streams.{Streams, nexts, fill, rest}
+use Rattle.frame.specs.Block.{heard, streams}
+use Rattle.frame.specs.Layout.{channelBy, rowBy, rowsBy, sc, Apart, frameBy}
+use Rattle.frame.specs.Eight.{eights, fieldsOf, raisedBy, wordAt, headAt, tailAt, octetIn, octetsIn}
+use Rattle.frame.specs.declared.Layout.{Layout}
+use Rattle.frame.proofs.StreamLaws.{length-nexts, nexts-append}
+use Rattle.frame.proofs.OctetLaws.{ones, number-one, octet-lt, octet-parts, channel-service, channel-before, channel-past, channel-lsd}
+use Rattle.frame.proofs.WordLaws.{eights-plus, eights-each, eights-lt, octet-of}
+use Rattle.frame.proofs.WrittenLaws.{done, octet-done}
+
+-- ---- the first part: voice and nobody's ones
+all-ones : (w g : ℕ) → (2 ^ w - 1) * 2 ^ g + (2 ^ g - 1) ≡ 2 ^ (w + g) - 1
+all-ones w g =
+    let split : 2 ^ w * 2 ^ g ≡ (2 ^ w - 1) * 2 ^ g + 2 ^ g =
+    ap (λ (x : ℕ). x * 2 ^ g) (one-less (2 ^ w) (pow-pos w)) ∙ add-mul (2 ^ w - 1) 1 (2 ^ g) ∙ ap (λ (x : ℕ). (2 ^ w - 1) * 2 ^ g + x) (one (2 ^ g)) in
+    rw (pow-add 2 w g) (omega (arith, split, pow-pos g))
+  where
+    one-less : (x : ℕ) → 1 ≤ x → x ≡ x - 1 + 1
+    one-less x h = omega arith
+
+    one : (x : ℕ) → 1 * x ≡ x
+    one x = omega arith
+
+-- a head of ones alone
+head-full : (p : Layout) (l : List Bool) (o : ℕ) → p .width + p .columns ≤ 7 → number (nexts (p .width) (drop (o * p .width) l)) ≡ 2 ^ p .width - 1
+    → headAt p l o ≡ (2 ^ (7 - p .columns) - 1) * 2 ^ (p .columns + 1)
+unfolding headAt
+head-full p l o h e =
+    let g : ℕ = 7 - (p .width + p .columns) in
+    let all : p .width + g ≡ 7 - p .columns = omega arith in
+    rw (e, all-ones (p .width) g, all)
+
+head-muted : (p : Layout) (v o : ℕ) → p .width + p .columns ≤ 7 → headAt p (drop v []) o ≡ (2 ^ (7 - p .columns) - 1) * 2 ^ (p .columns + 1)
+head-muted p v o h = head-full p (drop v []) o h (rw (drop-nil v, drop-nil (o * p .width)) (ones (p .width)))
+
+head-none : (p : Layout) (l : List Bool) (o : ℕ) → p .width + p .columns ≤ 7 → p .width ≡ 0
+    → headAt p l o ≡ (2 ^ (7 - p .columns) - 1) * 2 ^ (p .columns + 1)
+unfolding nexts number
+head-none p l o h z = head-full p l o h (rw z)
+
+heads-alike : (p : Layout) (l : List Bool) (k : ℕ) → ((o : ℕ) → headAt p l o ≡ (2 ^ (7 - p .columns) - 1) * 2 ^ (p .columns + 1))
+    → eights (λ j. (2 ^ (7 - p .columns) - 1) * 2 ^ (p .columns + 1)) ≡ wordAt (headAt p l) k
+unfolding wordAt
+heads-alike p l k e =
+    eights-each (λ j. (2 ^ (7 - p .columns) - 1) * 2 ^ (p .columns + 1)) (λ j. headAt p l (8 * k + j)) (λ j h. sym (e (8 * k + j)))
+
+pub heads-ones : (p : Layout) (mute : Bool) (bits : List Bool) (v k : ℕ) → p .width + p .columns ≤ 7 → (mute || eqb (p .width) 0) ≡ true
+    → eights (λ j. (2 ^ (7 - p .columns) - 1) * 2 ^ (p .columns + 1)) ≡ wordAt (headAt p (drop v (heard mute bits))) k
+heads-ones p true bits v k h t = heads-alike p (drop v []) k (λ o. head-muted p v o h)
+heads-ones p false bits v k h t = heads-alike p (drop v bits) k (λ o. head-none p (drop v bits) o h (eqb-true (p .width) 0 t))
+
+-- voice from octet i of its buffer on
+pub heads-laid : (p : Layout) (bits : List Bool) (i v k : ℕ) → p .width + p .columns ≤ 7 → 8 * i ≡ v
+    → raisedBy (p .width) (8 - p .width) ((2 ^ (7 - (p .width + p .columns)) - 1) * 2 ^ (p .columns + 1)) (drop (8 * (i + (k - 0) * p .width)) bits)
+    ≡ wordAt (headAt p (drop v bits)) k
+unfolding raisedBy wordAt headAt fieldsOf
+heads-laid p bits i v k h e = eights-each (λ j. fieldsOf w (drop at bits) j * 2 ^ (8 - w) + none) (λ j. headAt p (drop v bits) (8 * k + j)) each
+  where
+    w : ℕ
+    w = p .width
+
+    c : ℕ
+    c = p .columns
+
+    g : ℕ
+    g = 7 - (w + c)
+
+    none : ℕ
+    none = (2 ^ g - 1) * 2 ^ (c + 1)
+
+    at : ℕ
+    at = 8 * (i + (k - 0) * w)
+
+    each : (j : ℕ) → j < 8 → fieldsOf w (drop at bits) j * 2 ^ (8 - w) + none ≡ headAt p (drop v bits) (8 * k + j)
+    each j l =
+        let up : 8 - w ≡ g + (c + 1) = omega arith in
+        let same : k - 0 ≡ k = omega arith in
+        let whole : at ≡ 8 * (i + k * w) = ap (λ (x : ℕ). 8 * (i + x * w)) same in
+        let from : at + j * w ≡ v + (8 * k + j) * w = rw (add-mul (8 * k) j w, mul-assoc 8 k w) (omega (arith, whole)) in
+        let x : ℕ = number (nexts w (drop (v + (8 * k + j) * w) bits)) in
+        rw (drop-drop (j * w) at bits, drop-drop ((8 * k + j) * w) v bits, from, up, pow-add 2 g (c + 1), ← mul-assoc x (2 ^ g) (2 ^ (c + 1)), add-mul (x * 2 ^ g) (2 ^ g - 1) (2 ^ (c + 1)))
+
+-- ---- the second part: data's columns and the SC bit
+tail-service : (p : Layout) (bs ds : List Bool) (o : ℕ) → o < 16
+    → tailAt p bs ds o ≡ number (nexts (p .columns) (drop (o * p .columns + sc p o) ds)) * 2 + digit (getD (drop o bs) 0 true)
+unfolding tailAt
+tail-service p bs ds o h = rw (channel-service p (o + 1) (omega arith))
+
+tail-free : (p : Layout) (bs ds : List Bool) (o : ℕ) → 16 ≤ o → (o + 1 < p .first) ⊎ ((p .first ≤ o + 1) × (p .last < o + 1))
+    → tailAt p bs ds o ≡ number (nexts (p .columns) (drop (o * p .columns + sc p o) ds)) * 2 + 1
+unfolding tailAt
+tail-free p bs ds o h (inl b) = rw (channel-before p (o + 1) (omega arith) b)
+tail-free p bs ds o h (inr w) = rw (channel-past p (o + 1) (omega arith) (w .0) (w .1))
+
+tail-owned : (p : Layout) (bs ds : List Bool) (o : ℕ) → 16 ≤ o → p .first ≤ o + 1 → o + 1 ≤ p .last
+    → tailAt p bs ds o ≡ number (nexts (p .columns + 1) (drop (o * p .columns + sc p o) ds))
+unfolding tailAt
+tail-owned p bs ds o h f l =
+    let at : ℕ = o * p .columns + sc p o in
+    let last : List Bool = drop (p .columns) (drop at ds) in
+    rw (channel-lsd p (o + 1) (omega arith) f l, nexts-append (p .columns) 1 (drop at ds), number-append (nexts (p .columns) (drop at ds)) (nexts 1 last), length-nexts 1 last, number-one last, drop-drop (p .columns) at ds)
+
+-- data with no columns has the SC bit alone
+pub tail-bit : (p : Layout) (bs ds : List Bool) (o d : ℕ) → p .columns ≡ 0
+    → digit (getD (streams (drop o bs) [] (drop (d + sc p o) ds) (channelBy p (o + 1))) 0 true) ≡ tailAt p bs (drop d ds) o
+unfolding tailAt nexts number
+tail-bit p bs ds o d z =
+    let at : d + (o * 0 + sc p o + 0) ≡ d + sc p o = omega arith in
+    rw (z, drop-drop (o * 0 + sc p o + 0) d ds, at, zero-mul, zero-add)
+
+-- ---- eights of tails. Where data has columns they are read from bit `at` of its buffer on
+columns-at : (p : Layout) (bits : List Bool) (o j d at : ℕ) → (p .columns ≡ 0) ⊎ (at + j * p .columns ≡ d + (o * p .columns + sc p o))
+    → fieldsOf (p .columns) (drop at bits) j ≡ number (nexts (p .columns) (drop (o * p .columns + sc p o) (drop d bits)))
+unfolding fieldsOf nexts
+columns-at p bits o j d at (inl z) = rw z
+columns-at p bits o j d at (inr e) = rw (drop-drop (j * p .columns) at bits, e, ← drop-drop (o * p .columns + sc p o) d bits)
+
+in-octet : (c k j : ℕ) → (8 * k + j) * c ≡ 8 * (k * c) + j * c
+in-octet c k j = rw (add-mul (8 * k) j c, mul-assoc 8 k c)
+
+pub eight-served : (p : Layout) (bs bits : List Bool) (k d at : ℕ) → Apart p → k < 2 → (p .columns ≡ 0) ⊎ (at ≡ d + 8 * (k * p .columns))
+    → raisedBy (p .columns) 1 0 (drop at bits) + eights (fieldsOf 1 (drop (8 * k) bs)) ≡ wordAt (tailAt p bs (drop d bits)) k
+unfolding raisedBy wordAt fieldsOf
+eight-served p bs bits k d at a h e =
+    eights-plus (λ j. fieldsOf c (drop at bits) j * 2 + 0) (fieldsOf 1 (drop (8 * k) bs))
+    ∙ eights-each (λ j. fieldsOf c (drop at bits) j * 2 + 0 + fieldsOf 1 (drop (8 * k) bs) j) (λ j. tailAt p bs (drop d bits) (8 * k + j)) each
+  where
+    c : ℕ
+    c = p .columns
+
+    place : (j : ℕ) → j < 8 → (c ≡ 0) ⊎ (at ≡ d + 8 * (k * c)) → (c ≡ 0) ⊎ (at + j * c ≡ d + ((8 * k + j) * c + sc p (8 * k + j)))
+    place j l (inl z) = inl z
+    place j l (inr f) = inr (omega (arith, f, in-octet c k j, a .after))
+
+    each : (j : ℕ) → j < 8 → fieldsOf c (drop at bits) j * 2 + 0 + fieldsOf 1 (drop (8 * k) bs) j ≡ tailAt p bs (drop d bits) (8 * k + j)
+    each j l =
+        rw (tail-service p bs (drop d bits) (8 * k + j) (omega arith), ← columns-at p bits (8 * k + j) j d at (place j l e), drop-drop (j * 1) (8 * k) bs, mul-one j, number-one (drop (8 * k + j) bs), add-zero)
+
+pub eight-free : (p : Layout) (bs bits : List Bool) (k d at : ℕ) → 2 ≤ k → (8 * k + 8 < p .first) ⊎ ((p .first ≤ 8 * k + 1) × (p .last ≤ 8 * k))
+    → (p .columns ≡ 0) ⊎ (at ≡ d + 8 * (k * p .columns) + sc p (8 * k))
+    → raisedBy (p .columns) 1 1 (drop at bits) ≡ wordAt (tailAt p bs (drop d bits)) k
+unfolding raisedBy wordAt
+eight-free p bs bits k d at h w e =
+    eights-each (λ j. fieldsOf c (drop at bits) j * 2 + 1) (λ j. tailAt p bs (drop d bits) (8 * k + j)) each
+  where
+    c : ℕ
+    c = p .columns
+
+    free : (j : ℕ) → j < 8 → (8 * k + 8 < p .first) ⊎ ((p .first ≤ 8 * k + 1) × (p .last ≤ 8 * k))
+        → (8 * k + j + 1 < p .first) ⊎ ((p .first ≤ 8 * k + j + 1) × (p .last < 8 * k + j + 1))
+    free j l (inl b) = inl (omega arith)
+    free j l (inr u) = inr (omega (arith, u .0), omega (arith, u .1))
+
+    place : (j : ℕ) → j < 8 → (8 * k + 8 < p .first) ⊎ ((p .first ≤ 8 * k + 1) × (p .last ≤ 8 * k)) → (c ≡ 0) ⊎ (at ≡ d + 8 * (k * c) + sc p (8 * k))
+        → (c ≡ 0) ⊎ (at + j * c ≡ d + ((8 * k + j) * c + sc p (8 * k + j)))
+    place j l u (inl z) = inl z
+    place j l (inl b) (inr f) = inr (omega (arith, f, b, in-octet c k j))
+    place j l (inr u) (inr f) = inr (omega (arith, f, u .0, u .1, in-octet c k j))
+
+    each : (j : ℕ) → j < 8 → fieldsOf c (drop at bits) j * 2 + 1 ≡ tailAt p bs (drop d bits) (8 * k + j)
+    each j l =
+        rw (tail-free p bs (drop d bits) (8 * k + j) (omega arith) (free j l w), ← columns-at p bits (8 * k + j) j d at (place j l w e))
+
+pub eight-owned : (p : Layout) (bs bits : List Bool) (k d at : ℕ) → 2 ≤ k → p .first ≤ 8 * k + 1 → 8 * k + 8 ≤ p .last
+    → at ≡ d + 8 * (k * p .columns) + sc p (8 * k)
+    → raisedBy (p .columns + 1) 0 0 (drop at bits) ≡ wordAt (tailAt p bs (drop d bits)) k
+unfolding raisedBy wordAt fieldsOf
+eight-owned p bs bits k d at h f l e =
+    eights-each (λ j. fieldsOf (c + 1) (drop at bits) j * 1 + 0) (λ j. tailAt p bs (drop d bits) (8 * k + j)) each
+  where
+    c : ℕ
+    c = p .columns
+
+    each : (j : ℕ) → j < 8 → fieldsOf (c + 1) (drop at bits) j * 1 + 0 ≡ tailAt p bs (drop d bits) (8 * k + j)
+    each j i =
+        let o : ℕ = 8 * k + j in
+        let from : at + j * (c + 1) ≡ d + (o * c + sc p o) = rw (mul-add j c 1, mul-one j) (omega (arith, e, in-octet c k j)) in
+        rw (tail-owned p bs (drop d bits) o (omega arith) (omega arith) (omega arith), drop-drop (j * (c + 1)) at bits, from, drop-drop (o * c + sc p o) d bits, mul-one, add-zero)
+
+-- ---- both parts are the frame's octets
+abbrev pub octetAt : Layout → Streams → ℕ → ℕ
+octetAt p s o = number (fill (rowBy p (o + 1)) (rest (rowsBy p o) s))
+
+pub parts-are : (p : Layout) (bs vs ds : List Bool) (k : ℕ) → Apart p
+    → wordAt (headAt p vs) k + wordAt (tailAt p bs ds) k ≡ wordAt (octetAt p (streams bs vs ds)) k
+unfolding wordAt headAt tailAt
+parts-are p bs vs ds k a =
+    eights-plus (λ j. headAt p vs (8 * k + j)) (λ j. tailAt p bs ds (8 * k + j))
+    ∙ eights-each (λ j. headAt p vs (8 * k + j) + tailAt p bs ds (8 * k + j)) (λ j. octetAt p (streams bs vs ds) (8 * k + j))
+    (λ j l. sym (octet-parts p (8 * k + j) bs vs ds a))
+
+pub word-lt : (p : Layout) (s : Streams) (k : ℕ) → p .width + p .columns ≤ 7 → wordAt (octetAt p s) k < 2 ^ 64
+unfolding wordAt
+word-lt p s k h = eights-lt (λ j. octetAt p s (8 * k + j)) (λ j. octet-lt p (8 * k + j + 1) (rest (rowsBy p (8 * k + j)) s) h)
+
+pub word-octets : (p : Layout) (s : Streams) (k : ℕ) → p .width + p .columns ≤ 7 → k < 10
+    → take 8 (octetsIn (wordAt (octetAt p s) k)) ≡ take 8 (drop (8 * k) (frameBy p s))
+unfolding frameBy wordAt
+word-octets p s k h hk = ext-getD 0 (take 8 es) (take 8 (drop (8 * k) fs)) lengths each
+  where
+    f : ℕ → ℕ
+    f j = octetAt p s (8 * k + j)
+
+    es : List ℕ
+    es = octetsIn (eights f)
+
+    fs : List ℕ
+    fs = done p s 80
+
+    lengths : length (take 8 es) ≡ length (take 8 (drop (8 * k) fs))
+    lengths = sym (length-take-le 8 (drop (8 * k) fs) (rw (length-drop (8 * k) fs, length-octets 80 (fill (rowsBy p 80) s)) (omega arith)))
+
+    small : (j : ℕ) → f j < 256
+    small j = octet-lt p (8 * k + j + 1) (rest (rowsBy p (8 * k + j)) s) h
+
+    each : (j : ℕ) → j < length (take 8 es) → getD (take 8 es) j 0 ≡ getD (take 8 (drop (8 * k) fs)) j 0
+    each j l =
+        entry 8 (octetIn (eights f)) 0 j l
+        ∙ octet-of f small j l
+        ∙ sym (octet-done p s 80 (8 * k + j) h (omega arith))
+        ∙ sym (getD-take 8 (drop (8 * k) fs) j 0 l ∙ getD-drop (8 * k) fs j 0)

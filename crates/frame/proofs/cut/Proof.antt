@@ -1,0 +1,81 @@
+-- `frame::cut` meets its contract: the loop's invariant: the eights before k are the definition's, and those before a are as they were.
+use mathlib.Core.Path.{_≡_, refl, _∙_}
+use mathlib.Core.Bool.{Bool}
+use mathlib.Core.List.{List}
+use Prim.Native.Nat.{ℕ, _-_, _≤_, _<_}
+use native.Mathlib.Omega.{arith}
+use denote.Ref.{now}
+use lib.ListN.{length, getD, drop, length-set}
+use lib.Seq.{getD-set-other}
+use Rattle.bits.specs.Bits.{bitsOf}
+use Rattle.frame.specs.Eight.{wordAt, tailAt}
+use Rattle.frame.proofs.WrittenLaws.{one-laid}
+use borrow.Author.Needs.{needs}
+use Rattle.frame.proofs.cut.Statement.{statement}
+use Rattle.frame.proofs.cut.Tie as tie
+
+abbrev Inv-loop : tie.InvT-loop
+Inv-loop lanes₀ a b p lsd d k₀ lanes k = (a ≤ k) × (k ≤ b) × (length lanes ≡ length lanes₀) × ((j : ℕ) → j < a → getD lanes j 0 ≡ getD lanes₀ j 0) × ((service : List Bool) (j : ℕ) → a ≤ j → j < k → getD lanes j 0 ≡ wordAt (tailAt p service (drop d (bitsOf lsd))) j)
+
+abbrev μ-loop : tie.MeasureT-loop
+μ-loop lanes₀ a b p lsd d k₀ lanes k = b - k
+
+loop-holds : tie.Need-loop-holds Inv-loop μ-loop
+loop-holds c = (omega arith, omega arith, refl, λ j l. refl, λ bs j f l. absurd (omega arith))
+
+mul-cut-eight : tie.Need-mul-cut-eight Inv-loop μ-loop
+mul-cut-eight c = search needs
+
+cut-eight-requires : tie.Need-cut-eight-requires Inv-loop μ-loop
+cut-eight-requires c κs = search needs
+
+mul-lanes : tie.Need-mul-lanes Inv-loop μ-loop
+mul-lanes c = search needs
+
+slice-write-lanes : tie.Need-slice-write-lanes Inv-loop μ-loop
+slice-write-lanes c = search needs
+
+add-k : tie.Need-add-k Inv-loop μ-loop
+add-k c = search needs
+
+loop-less : tie.Need-loop-less Inv-loop μ-loop
+loop-less c = search needs
+
+loop-again : tie.Need-loop-again Inv-loop μ-loop
+unfolding wordAt
+loop-again c =
+    let a = c .before .before .before .before .before .args in
+    let l = c .before .before .loop in
+    let x = c .cut-eight .result in
+    let inside : l .k < length (l .lanes) = omega arith in (
+      omega arith,
+      omega arith,
+      simp length-set (l .inv .2),
+      λ j h. getD-set-other (l .lanes) (l .k) j x 0 (λ e. omega arith) ∙ l .inv .3 j h,
+      λ bs. one-laid (l .lanes) (a .a) (l .k) x (wordAt (tailAt (a .p) bs (drop (a .d) (bitsOf (now (a .lsd)))))) inside (c .cut-eight .ensures bs) (l .inv .4 bs),
+    )
+
+same-length : tie.Need-same-length Inv-loop μ-loop
+same-length c = search needs
+
+returns : tie.Need-returns Inv-loop μ-loop
+returns c =
+    let l = c .before .loop in
+    (l .inv .3, λ bs k f t. l .inv .4 bs k f (omega arith))
+
+pub cut-spec : {M : Type 1} → statement M
+cut-spec =
+    tie.close
+    (tie.spec
+    Inv-loop
+    μ-loop
+    loop-holds
+    mul-cut-eight
+    cut-eight-requires
+    mul-lanes
+    slice-write-lanes
+    add-k
+    loop-less
+    loop-again
+    same-length
+    returns)
