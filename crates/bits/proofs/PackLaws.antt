@@ -2,16 +2,15 @@
 use mathlib.Core.Path.{_≡_, refl, sym, ap, _∙_}
 use mathlib.Core.Bool.{Bool}
 use mathlib.Core.List.{List, [], _∷_, _++_, append-assoc}
-use Prim.Native.Nat.{ℕ, zero, suc, _+_, _-_, _*_, _/_, _%_, _^_, _≤_, _<_}
+use Prim.Native.Nat.{ℕ, zero, suc, _+_, _-_, _*_, _/_, _^_, _≤_, _<_}
 use native.Mathlib.Nat.{zero-add, add-zero, suc-add, zero-mul, mul-suc, add-comm}
 use native.Mathlib.Numerals.{add-one}
 use native.Mathlib.Omega.{arith}
 use lib.Dec.{lit<}
-use lib.Pow.{high, low}
 use lib.ListN.{length, getD, take, drop, set, replicate, length-append, length-drop, length-take, take-append-drop}
 use lib.Seq.{drop-drop, drop-cons, take-nil, take-append-le, take-append-add, drop-append-le, length-take-le, take-at, drop-at, set-at, append-snoc}
 use Rattle.bits.specs.Bits.{lowBits, octetBits, bitsOf, number, zeros, octets}
-use Rattle.bits.proofs.BitLaws.{lowBits-back, number-append, number-bound, number-fits}
+use Rattle.bits.proofs.BitLaws.{lowBits-back, number-append, number-fits}
 use Rattle.bits.proofs.RunLaws.{length-octet}
 
 pub length-octets : (n : ℕ) (bs : List Bool) → length (octets n bs) ≡ n
@@ -86,21 +85,6 @@ padded l h =
     let k : length (take m (zeros 8)) ≡ m = length-take-le m (zeros 8) (omega arith) in
     ap (λ (n : ℕ). number (take n (l ++ zeros 8))) e ∙ ap number (take-append-add l (zeros 8) m) ∙ number-append l (take m (zeros 8))
     ∙ rw (k, number-zeros m 8, add-zero)
-
--- ---- the first eight bits, and those after them, as numbers
-pub first-eight : (l : List Bool) → 8 ≤ length l → number l / 2 ^ (length l - 8) ≡ number (take 8 l)
-first-eight l h =
-    let e : length (drop 8 l) ≡ length l - 8 = length-drop 8 l in
-    let b : number (drop 8 l) < 2 ^ (length l - 8) = rw e at (number-bound (drop 8 l)) in
-    ap (λ (v : List Bool). number v / 2 ^ (length l - 8)) (sym (take-append-drop 8 l))
-    ∙ rw (number-append (take 8 l) (drop 8 l), e) (high (number (take 8 l)) (length l - 8) b)
-
-pub after-eight : (l : List Bool) → 8 ≤ length l → number l % 2 ^ (length l - 8) ≡ number (drop 8 l)
-after-eight l h =
-    let e : length (drop 8 l) ≡ length l - 8 = length-drop 8 l in
-    let b : number (drop 8 l) < 2 ^ (length l - 8) = rw e at (number-bound (drop 8 l)) in
-    ap (λ (v : List Bool). number v % 2 ^ (length l - 8)) (sym (take-append-drop 8 l))
-    ∙ rw (number-append (take 8 l) (drop 8 l), e) (low (number (take 8 l)) (length l - 8) b)
 
 -- ---- octets that are packed from their own bits
 pub take-bitsOf : (k : ℕ) (xs : List ℕ) → take (8 * k) (bitsOf xs) ≡ bitsOf (take k xs)

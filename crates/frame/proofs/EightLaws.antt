@@ -6,34 +6,28 @@ use Prim.Native.Nat.{ℕ, suc, _+_, _-_, _*_, _/_, _%_, _^_, _≤_, _<_}
 use native.Mathlib.Nat.{add-mul, one-mul, lt-of-lt-of-le, mod-lt}
 use native.Mathlib.Omega.{arith}
 use lib.Pow.{pow-mono, pow-pos, high}
-use lib.ListN.{length, take, drop, length-drop, take-append-drop}
-use lib.Seq.{take-all, take-at, drop-at, drop-drop, length-take-le}
+use lib.ListN.{length, drop, length-drop}
+use lib.Seq.{take-all, take-at, drop-at, drop-drop}
 use Rattle.bits.specs.Bits.{lowBits, bitsOf, number, numberAt}
-use Rattle.bits.proofs.BitLaws.{length-lowBits, length-bitsOf, bitsOf-append, lowBits-append, number-fits, number-lowBits}
+use Rattle.bits.proofs.BitLaws.{length-lowBits, length-bitsOf, lowBits-append, number-fits, number-lowBits}
 use Rattle.bits.proofs.EightLaws.{numberAt-lt, number-parts, number-at}
+use Rattle.bits.proofs.PackLaws.{take-bitsOf}
 use Rattle.bits.proofs.RunLaws.{part, drop-bitsOf}
 use Rattle.frame.specs.Streams.{nexts}
 use Rattle.frame.specs.Eight.{fieldOf}
 use Rattle.frame.proofs.StreamLaws.{length-nexts, nexts-take, nexts-append}
 
 -- ---- octets of a buffer as one number: of eight, of which some may be past the end, the first n
-first-bits : (n : ℕ) (xs : List ℕ) → n ≤ length xs → nexts (8 * n) (bitsOf xs) ≡ bitsOf (take n xs)
-first-bits n xs h =
-    let ys : List ℕ = take n xs in
-    let n8 : length (bitsOf ys) ≡ 8 * n = length-bitsOf ys ∙ rw (length-take-le n xs h) (omega arith) in
-    let whole : bitsOf ys ++ bitsOf (drop n xs) ≡ bitsOf xs = sym (bitsOf-append ys (drop n xs)) ∙ ap bitsOf (take-append-drop n xs) in
-    let long : 8 * n ≤ length (bitsOf xs) = rw (length-bitsOf xs) (omega arith) in
-    nexts-take (8 * n) (bitsOf xs) long ∙ ap (take (8 * n)) (sym whole) ∙ take-at (bitsOf ys) (bitsOf (drop n xs)) (8 * n) n8
-
 pub octets-first : (xs : List ℕ) (i n : ℕ) → n ≤ 8 → i + n ≤ length xs
     → numberAt xs i 8 / 2 ^ (8 * (8 - n)) ≡ number (nexts (8 * n) (drop (8 * i) (bitsOf xs)))
 octets-first xs i n h room =
+    let ys : List ℕ = drop i xs in
     let parts : 8 ≡ n + (8 - n) = omega arith in
-    let inside : n ≤ length (drop i xs) = rw (length-drop i xs) (omega arith) in
+    let long : 8 * n ≤ length (bitsOf ys) = rw (length-bitsOf ys, length-drop i xs) (omega arith) in
     ap (λ (m : ℕ). numberAt xs i m / 2 ^ (8 * (8 - n))) parts
     ∙ rw (number-parts xs i n (8 - n)) (high (numberAt xs i n) (8 * (8 - n)) (numberAt-lt xs (i + n) (8 - n)))
     ∙ number-at xs i n room
-    ∙ ap number (sym (ap (nexts (8 * n)) (drop-bitsOf i xs) ∙ first-bits n (drop i xs) inside))
+    ∙ ap number (sym (ap (nexts (8 * n)) (drop-bitsOf i xs) ∙ nexts-take (8 * n) (bitsOf ys) long ∙ take-bitsOf n ys))
 
 -- ---- the service bits as two octets
 pub service-first : (s : ℕ) → s < 65536 → number (nexts 8 (lowBits 16 s)) ≡ s / 256

@@ -92,25 +92,12 @@ pub fn layout_of(mode: Mode) -> Layout
     }
 }
 
-// Octet i of a buffer, or 0 past its end.
-fn octet_at(buffer: &[u8], i: usize) -> usize
-    ensures { λ r. ⌜ (r ≡ getD (now (buffer .entry)) i 0) × (r < 256) ⌝ }
+// Bit `at` of a buffer.
+fn bit_at(buffer: &[u8], at: usize) -> usize
+    requires { ⌜ at < 8 * length (now buffer) ⌝ }
+    ensures { λ r. ⌜ r ≡ digit (getD (drop at (bitsOf (now (buffer .entry)))) 0 true) ⌝ }
 {
-    if i < buffer.len() {
-        return buffer[i] as usize;
-    }
-    0
-}
-
-// The n bits of a buffer from bit `at` on, eight at most, as a number.
-fn bits_at(buffer: &[u8], at: usize, n: usize) -> usize
-    requires { ⌜ (n ≤ 8) × (at + n ≤ 8 * length (now buffer)) ⌝ }
-    ensures { λ r. ⌜ r ≡ number (nexts n (drop at (bitsOf (now (buffer .entry))))) ⌝ }
-{
-    let i = at / 8;
-    let high = octet_at(buffer, i);
-    let low = octet_at(buffer, i + 1);
-    ((high * 256 + low) >> (16 - at % 8 - n)) % (1 << n)
+    ((buffer[at / 8] as usize) >> (7 - at % 8)) % 2
 }
 
 // Whether data's SC octets are whole eights of a frame.
@@ -152,7 +139,7 @@ fn own_bit(p: Layout, o: usize, lsd: &[u8], at: usize) -> usize
     if last < o + 1 {
         return 1;
     }
-    bits_at(lsd, at, 1)
+    bit_at(lsd, at)
 }
 
 // n octets of a buffer from octet i on, as one number: eight are read at once, and those past the n are let go. At the buffer's end there may

@@ -1,8 +1,7 @@
 -- `frame::own_bit` meets its contract: a law of the channel for each answer.
-use mathlib.Core.Path.{_∙_}
 use Prim.Native.Nat.{_+_}
 use native.Mathlib.Omega.{arith}
-use Rattle.frame.proofs.OctetLaws.{number-one, channel-before, channel-past, channel-lsd}
+use Rattle.frame.proofs.OctetLaws.{channel-before, channel-past, channel-lsd}
 use borrow.Author.Needs.{needs}
 use Rattle.frame.proofs.own_bit.Statement.{statement}
 use Rattle.frame.proofs.own_bit.Tie as tie
@@ -29,15 +28,15 @@ returns-2 c =
     let a = c .before .before .before .before .before .args in
     λ bs. rw (channel-past (a .p) (a .o + 1) (omega arith) (omega arith) (omega arith))
 
-bits-at-requires : tie.Need-bits-at-requires
-bits-at-requires c κs = search needs
+bit-at-requires : tie.Need-bit-at-requires
+bit-at-requires c κs = search needs
 
 returns-3 : tie.Need-returns-3
 returns-3 c =
     let a = c .before .before .before .before .before .before .args in
-    λ bs. rw (channel-lsd (a .p) (a .o + 1) (omega arith) (omega arith) (omega arith)) (c .bits-at .ensures ∙ number-one _)
+    λ bs. rw (channel-lsd (a .p) (a .o + 1) (omega arith) (omega arith) (omega arith)) (c .bit-at .ensures)
 
 pub own-bit-spec : {M : Type 1} → statement M
 own-bit-spec =
     tie.close
-    (tie.spec cast-first cast-last add-if1 returns add-if2 returns-2 bits-at-requires returns-3)
+    (tie.spec cast-first cast-last add-if1 returns add-if2 returns-2 bit-at-requires returns-3)
