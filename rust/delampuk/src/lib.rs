@@ -3,8 +3,8 @@
 //!
 //! A [`Sender`] frames blocks of 20 ms, a [`Reader`] takes them apart again, and a [`Walk`] goes over a recording of the
 //! line block by block. The work is done by a library that is proved: it takes any octets, lengths and saved states, and
-//! refuses by a numbered list ([`Refusal`]) and only then. This crate links its archive, which `sh tools/native` writes,
-//! and adds types and no rules. It needs the standard library alone and allocates nothing.
+//! refuses by a numbered list ([`Refusal`]) and only then. `delampuk-sys` links its archive, which `sh tools/native`
+//! writes; this crate adds types and no rules. Both need the standard library alone and allocate nothing.
 //!
 //! A code is an octet, written (attribute)\[value\] in H.221: the highest three bits and the lower five. (000)\[25\], the
 //! octet 19 in hex, sets audio of six bits in each octet of the line, and 80 says nothing that changes the mode.
