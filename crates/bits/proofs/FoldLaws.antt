@@ -12,7 +12,7 @@ use lib.Dec.{lit<}
 use lib.ListN.{length, getD, take, drop, length-append, length-drop}
 use lib.Pow.{pow-pos}
 use lib.Seq.{take-add, take-all, drop-drop, length-take-le}
-use Rattle.bits.specs.Bits.{lowBits, bitsOf, number, numberAt, eightAt, zeros, xors}
+use Rattle.bits.specs.Bits.{lowBits, bitsOf, numberAt, eightAt, zeros, xors}
 use Rattle.bits.specs.Remainder.{continued, remainder}
 use Rattle.bits.specs.Crc.{crc4Generator, summed, summedFrom}
 use Rattle.bits.proofs.BitLaws.{xors-append, length-xors, length-lowBits, lowBits-zero, lowBits-xor, lowBits-back, bitsOf-append, length-bitsOf}

@@ -6,7 +6,7 @@ use Prim.Native.Nat.{ℕ, zero, suc, _+_, _-_, _*_, _/_, _%_, _^_, _≤_, _<_}
 use native.Mathlib.Nat.{mul-suc, add-comm, div-add-mod}
 use native.Mathlib.Omega.{arith}
 use lib.Pow.{high, low}
-use lib.ListN.{length, getD, take, drop, length-append, length-drop, length-take, take-append-drop}
+use lib.ListN.{length, getD, take, drop, length-drop, length-take, take-append-drop}
 use lib.Seq.{drop-drop, drop-cons, drop-nil, drop-append-add, drop-append-le, take-append-le}
 use Rattle.bits.specs.Bits.{lowBits, octetBits, bitsOf, number}
 use Rattle.bits.proofs.BitLaws.{length-lowBits, number-append, number-bound, number-fits}

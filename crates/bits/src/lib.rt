@@ -6,7 +6,7 @@ ghost use Prim.Native.Nat.{_+_, _^_, _≤_, _<_};
 ghost use lib.Bits.{bitXor, bitAnd};
 ghost use lib.Dec.{leb};
 ghost use lib.ListN.{length, getD};
-ghost use Rattle.bits.specs.Bits.{lowBits, bitsOf, digit, number, numberAt, eightAt};
+ghost use Rattle.bits.specs.Bits.{lowBits, digit, number, numberAt, eightAt};
 ghost use Rattle.bits.specs.Remainder.{continued, remainder};
 ghost use Rattle.bits.specs.Crc.{crc4Generator, crc4Of, crc4From, summed, blockCrcOf};
 

@@ -88,7 +88,7 @@ fn tell_voice(found: Sender, mute: bool) {
 
 // The word that the line says, read back as the far end reads it.
 fn tell_word(line: &[u8]) {
-    match bas::read_word(frame::bas_word(line)) {
+    match bas::read_word(service::bas_word(line)) {
         bas::Word::Code(code) => hex(code),
         bas::Word::Unreadable => text(b"--"),
     }

@@ -1,14 +1,11 @@
 -- Laws of a block: its service bits, its definition by a layout, lengths that do not fit, and that a silent block does not hear the voice.
 use mathlib.Core.Path.{_≡_, refl, ap, ap₂, sym, _∙_}
-use mathlib.Core.Bool.{Bool, true, cond, _&&_}
+use mathlib.Core.Bool.{Bool, true, cond}
 use mathlib.Core.List.{List, [], _++_, append-assoc}
 use Prim.Native.Nat.{ℕ, _+_, _*_, _/_, _%_, _<_}
 use native.Mathlib.Omega.{arith}
-use borrow.Author.Tests.{eqb-true}
-use lib.Dec.{eqb}
 use lib.ListN.{length, getD, take, drop}
 use Rattle.bits.specs.Bits.{lowBits, octetBits, number, octets}
-use Rattle.bits.proofs.Every.{and-left, and-right}
 use Rattle.bits.proofs.BitLaws.{lowBits-back, first-octet, second-octet}
 use Rattle.bas.specs.Words.{wordBits, wordOf, lineOrder}
 use Rattle.bas.proofs.WordLaws.{length-wordBits, length-line}
@@ -16,13 +13,14 @@ use Rattle.modes.specs.Numbers.{evenFrame, oddFrame}
 use Rattle.modes.specs.declared.Mode.{Mode}
 use Rattle.modes.specs.declared.Owner.{Owner}
 use Rattle.modes.specs.declared.Owner.the-variants.{Service, Voice, Lsd, Nobody}
-use Rattle.frame.specs.Streams.{count, fill}
-use Rattle.frame.specs.Service.{serviceRows}
-use Rattle.frame.specs.Block.{rows, places, serviceBits, sources, blockOf, fitting, lineAfter}
-use Rattle.frame.specs.Layout.{layoutOf, rowsBy}
+use Rattle.places.specs.Streams.{count, fill}
+use Rattle.service.specs.Service.{serviceRows}
+use Rattle.places.specs.Places.{rows, places, fitting}
+use Rattle.frame.specs.Block.{serviceBits, sources, blockOf, lineAfter}
+use Rattle.places.specs.Layout.{layoutOf, rowsBy}
 use Rattle.frame.specs.declared.Header.{Header}
-use Rattle.frame.proofs.StreamLaws.{fill-agree, count-append}
-use Rattle.frame.proofs.LayoutLaws.{rows-are, count-voice}
+use Rattle.places.proofs.StreamLaws.{fill-agree, count-append}
+use Rattle.places.proofs.LayoutLaws.{rows-are, count-voice}
 
 -- ---- service bits
 -- the word's sixteen bits in line order, as a number and as its two halves
@@ -62,17 +60,7 @@ pub block-is : (m : Mode) (h : Header) (mute : Bool) (voice lsd : List ℕ)
 unfolding blockOf places
 block-is m h mute voice lsd = ap (λ (ps : List Owner). octets 160 (fill (ps ++ ps) (sources h mute voice lsd))) (sym (rows-are m 80))
 
--- ---- the three lengths, out of their test
-pub lengths : (line voice lsd : ℕ) → fitting line voice lsd ≡ true → (line ≡ 160) × (voice ≡ 140) × (lsd ≡ 156)
-unfolding fitting
-lengths line voice lsd e =
-    let two : (eqb line 160 && eqb voice 140) ≡ true = and-left (eqb line 160 && eqb voice 140) (eqb lsd 156) e in (
-      eqb-true line 160 (and-left (eqb line 160) (eqb voice 140) two),
-      eqb-true voice 140 (and-right (eqb line 160) (eqb voice 140) two),
-      eqb-true lsd 156 (and-right (eqb line 160 && eqb voice 140) (eqb lsd 156) e),
-    )
-
--- what a call tells, by whether its lengths fit
+-- ---- what a call tells, by whether its lengths fit
 pub told : (m : Mode) (h : Header) (mute : Bool) (voice lsd line : List ℕ) (b : Bool) → fitting (length line) (length voice) (length lsd) ≡ b
     → (b ≡ fitting (length line) (length voice) (length lsd)) × (cond b (blockOf m h mute voice lsd) line ≡ lineAfter m h mute voice lsd line)
 unfolding lineAfter

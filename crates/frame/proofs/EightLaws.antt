@@ -1,21 +1,21 @@
 -- Octets of a buffer and the service bits as numbers, and the eight fields of such a number.
 use mathlib.Core.Path.{_≡_, ap, sym, _∙_}
 use mathlib.Core.Bool.{Bool}
-use mathlib.Core.List.{List, _++_}
-use Prim.Native.Nat.{ℕ, suc, _+_, _-_, _*_, _/_, _%_, _^_, _≤_, _<_}
+use mathlib.Core.List.{List}
+use Prim.Native.Nat.{ℕ, _+_, _-_, _*_, _/_, _%_, _^_, _≤_, _<_}
 use native.Mathlib.Nat.{add-mul, one-mul, lt-of-lt-of-le, mod-lt}
 use native.Mathlib.Omega.{arith}
 use lib.Pow.{pow-mono, pow-pos, high}
 use lib.ListN.{length, drop, length-drop}
-use lib.Seq.{take-all, take-at, drop-at, drop-drop}
+use lib.Seq.{take-all, take-at, drop-at}
 use Rattle.bits.specs.Bits.{lowBits, bitsOf, number, numberAt}
 use Rattle.bits.proofs.BitLaws.{length-lowBits, length-bitsOf, lowBits-append, number-fits, number-lowBits}
 use Rattle.bits.proofs.EightLaws.{numberAt-lt, number-parts, number-at}
 use Rattle.bits.proofs.PackLaws.{take-bitsOf}
 use Rattle.bits.proofs.RunLaws.{part, drop-bitsOf}
-use Rattle.frame.specs.Streams.{nexts}
+use Rattle.places.specs.Streams.{nexts}
 use Rattle.frame.specs.Eight.{fieldOf}
-use Rattle.frame.proofs.StreamLaws.{length-nexts, nexts-take, nexts-append}
+use Rattle.places.proofs.StreamLaws.{length-nexts, nexts-take, nexts-append}
 
 -- ---- octets of a buffer as one number: of eight, of which some may be past the end, the first n
 pub octets-first : (xs : List ℕ) (i n : ℕ) → n ≤ 8 → i + n ≤ length xs

@@ -1,13 +1,8 @@
-pub mod BackLaws
 pub mod BlockLaws
-pub mod ChannelLaws
 pub mod EightLaws
-pub mod LayoutLaws
 pub mod OctetLaws
 pub mod PartLaws
 pub mod SpreadLaws
-pub mod StreamLaws
 pub mod TailLaws
 pub mod WordLaws
 pub mod WrittenLaws
-pub mod HeaderLaws

@@ -15,12 +15,12 @@ use Rattle.bits.specs.Bits.{digit, number}
 use Rattle.bits.proofs.BitLaws.{number-append, number-bound}
 use Rattle.modes.specs.declared.Owner.{Owner}
 use Rattle.modes.specs.declared.Owner.the-variants.{Service, Voice, Lsd, Nobody}
-use Rattle.frame.specs.Streams.{Streams, same, count, rest, fill, nexts}
+use Rattle.places.specs.Streams.{Streams, same, count, rest, fill, nexts}
 use Rattle.frame.specs.Block.{streams}
-use Rattle.frame.specs.Layout.{columnsBy, channelBy, rowBy, rowsBy, sc, Apart}
-use Rattle.frame.specs.declared.Layout.{Layout}
-use Rattle.frame.proofs.StreamLaws.{fill-append, fill-all, rest-at, rest-rest, count-append, count-all, count-none, length-fill, length-nexts}
-use Rattle.frame.proofs.LayoutLaws.{count-voice, count-lsd, count-service, length-row}
+use Rattle.places.specs.Layout.{columnsBy, channelBy, rowBy, rowsBy, sc, Apart}
+use Rattle.places.specs.declared.Layout.{Layout}
+use Rattle.places.proofs.StreamLaws.{fill-append, fill-all, rest-at, rest-rest, count-append, count-all, count-none, length-fill, length-nexts}
+use Rattle.places.proofs.LayoutLaws.{count-voice, count-lsd, count-service, length-row}
 
 -- n places of a stream that has no bits
 pub ones : (n : ℕ) → number (nexts n []) ≡ 2 ^ n - 1

@@ -15,12 +15,13 @@ use Rattle.bits.specs.Bits.{number, digit}
 use Rattle.bits.proofs.BitLaws.{number-append}
 use Rattle.bits.proofs.PackLaws.{length-octets}
 use Rattle.bits.proofs.Table.{entry}
-use Rattle.frame.specs.Streams.{Streams, nexts, fill, rest}
+use Rattle.places.specs.Streams.{Streams, nexts, fill, rest}
 use Rattle.frame.specs.Block.{heard, streams}
-use Rattle.frame.specs.Layout.{channelBy, rowBy, rowsBy, sc, Apart, frameBy}
+use Rattle.places.specs.Layout.{channelBy, rowBy, rowsBy, sc, Apart}
+use Rattle.frame.specs.Frame.{frameBy}
 use Rattle.frame.specs.Eight.{eights, fieldsOf, raisedBy, wordAt, headAt, tailAt, octetIn, octetsIn}
-use Rattle.frame.specs.declared.Layout.{Layout}
-use Rattle.frame.proofs.StreamLaws.{length-nexts, nexts-append}
+use Rattle.places.specs.declared.Layout.{Layout}
+use Rattle.places.proofs.StreamLaws.{length-nexts, nexts-append}
 use Rattle.frame.proofs.OctetLaws.{ones, number-one, octet-lt, octet-parts, channel-service, channel-before, channel-past, channel-lsd}
 use Rattle.frame.proofs.WordLaws.{eights-plus, eights-each, eights-lt, octet-of}
 use Rattle.frame.proofs.WrittenLaws.{done, octet-done}

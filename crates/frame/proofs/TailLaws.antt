@@ -11,10 +11,10 @@ use lib.Dec.{leb}
 use lib.ListN.{drop}
 use Rattle.bits.specs.Bits.{lowBits}
 use Rattle.frame.specs.Block.{streams}
-use Rattle.frame.specs.Layout.{inEights, sc, Apart}
+use Rattle.places.specs.Layout.{inEights, sc, Apart}
 use Rattle.frame.specs.Eight.{eights, fieldOf, fieldsOf, raisedBy, wordAt, tailAt}
-use Rattle.frame.specs.declared.Layout.{Layout}
-use Rattle.frame.proofs.LayoutLaws.{eights-at}
+use Rattle.places.specs.declared.Layout.{Layout}
+use Rattle.places.proofs.LayoutLaws.{eights-at}
 use Rattle.frame.proofs.EightLaws.{service-first, service-second}
 use Rattle.frame.proofs.PartLaws.{eight-served, eight-free, eight-owned, parts-are, word-lt}
 use Rattle.frame.proofs.WordLaws.{lane-is}

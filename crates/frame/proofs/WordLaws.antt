@@ -12,9 +12,9 @@ use lib.Pow.{pow-add, pow-mono, shl-exact, ones-lt}
 use Rattle.bits.specs.Bits.{number}
 use Rattle.bits.proofs.BitLaws.{number-bound}
 use Rattle.bits.proofs.ShiftLaws.{one-shl}
-use Rattle.frame.specs.Streams.{nexts}
+use Rattle.places.specs.Streams.{nexts}
 use Rattle.frame.specs.Eight.{eights, fieldOf, fieldsOf, raisedBy}
-use Rattle.frame.proofs.StreamLaws.{length-nexts}
+use Rattle.places.proofs.StreamLaws.{length-nexts}
 use Rattle.frame.proofs.EightLaws.{field-nexts, field-small}
 
 -- ---- eight octets as one number

@@ -14,12 +14,13 @@ use Rattle.bits.specs.Bits.{number, octets}
 use Rattle.bits.proofs.PackLaws.{length-octets, octets-append, octets-one}
 use Rattle.modes.specs.declared.Owner.{Owner}
 use Rattle.modes.specs.declared.Owner.the-variants.{Service, Voice, Lsd, Nobody}
-use Rattle.frame.specs.Streams.{Streams, count, rest, fill}
+use Rattle.places.specs.Streams.{Streams, count, rest, fill}
 use Rattle.frame.specs.Block.{streams}
-use Rattle.frame.specs.Layout.{rowBy, rowsBy, sc, Apart, frameBy}
-use Rattle.frame.specs.declared.Layout.{Layout}
-use Rattle.frame.proofs.StreamLaws.{fill-append, fill-agree, length-fill}
-use Rattle.frame.proofs.LayoutLaws.{count-service, count-voice, count-lsd, length-row, length-rows}
+use Rattle.places.specs.Layout.{rowBy, rowsBy, sc, Apart}
+use Rattle.frame.specs.Frame.{frameBy}
+use Rattle.places.specs.declared.Layout.{Layout}
+use Rattle.places.proofs.StreamLaws.{fill-append, fill-agree, length-fill}
+use Rattle.places.proofs.LayoutLaws.{count-service, count-voice, count-lsd, length-row, length-rows}
 
 -- a frame's first n octets, and one more
 abbrev pub done : Layout → Streams → ℕ → List ℕ

@@ -6,10 +6,10 @@ use Prim.Native.Nat.{ℕ, _+_, _-_, _*_, _/_, _%_, _^_}
 use lib.Bits.{bitAnd}
 use lib.ListN.{getD, drop}
 use Rattle.bits.specs.Bits.{number, digit}
-use Rattle.frame.specs.Streams.{nexts}
+use Rattle.places.specs.Streams.{nexts}
 use Rattle.frame.specs.Block.{streams}
-use Rattle.frame.specs.Layout.{channelBy, sc}
-use Rattle.frame.specs.declared.Layout.{Layout}
+use Rattle.places.specs.Layout.{channelBy, sc}
+use Rattle.places.specs.declared.Layout.{Layout}
 
 -- field k of a number's eight, the highest first and counted from 0, each of so many bits
 unfoldable pub fieldOf : ℕ → ℕ → ℕ → ℕ

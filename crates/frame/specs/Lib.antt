@@ -1,6 +1,3 @@
-pub mod Streams
-pub mod Service
 pub mod Block
-pub mod Channel
-pub mod Layout
+pub mod Frame
 pub mod Eight

@@ -1,4 +1,4 @@
-// The frames of a block: service rows, the writer, and what the service channel of a block says (document 01).
+// The writer: both frames of a block, from its header, voice and data (document 01, 'Codes and bit places' and 'Sending a block').
 ghost use mathlib.Core.Path.{_≡_};
 ghost use mathlib.Core.Bool.{Bool, true, false};
 ghost use mathlib.Core.List.{List, [], _++_};
@@ -6,16 +6,15 @@ ghost use Prim.Native.Nat.{ℕ, _+_, _-_, _*_, _/_, _%_, _^_, _<_, _≤_};
 ghost use lib.ListN.{length, getD, drop};
 ghost use lib.Seq.{paste};
 ghost use Rattle.bits.specs.Bits.{odd, bitsOf, lowBits, octetBits, digit, number, octets};
-ghost use Rattle.frame.specs.Streams.{nexts, fill, rest};
-ghost use Rattle.frame.specs.Service.{serviceRows};
-ghost use Rattle.frame.specs.Block.{serviceBits, heard, streams, fitting, lineAfter};
-ghost use Rattle.bas.specs.Reading.{weight};
-ghost use Rattle.frame.specs.Channel.{channelBits, wrongBits, oddFirst, cBits, basWord};
+ghost use Rattle.places.specs.Streams.{nexts, fill};
+ghost use Rattle.frame.specs.Block.{serviceBits, heard, streams, lineAfter};
+ghost use Rattle.places.specs.Places.{fitting};
 ghost use Rattle.frame.specs.Eight.{partedBy, eights, fieldOf, fieldsOf, raisedBy, wordAt, headAt, tailAt, octetsIn};
-ghost use Rattle.frame.specs.Layout.{layoutOf, channelBy, rowsBy, inEights, Apart, sc, Ready, frameSources, frameBy};
+ghost use Rattle.places.specs.Layout.{channelBy, rowsBy, inEights, Apart, sc};
+ghost use Rattle.frame.specs.Frame.{Ready, frameSources, frameBy};
 use modes::BlockNumber;
 use modes::Mode;
-use modes::Owner;
+use places::Layout;
 
 // What stands in the service channel of a block, beside its alignment: A, E and T, the block's number, the remainder of the block before and the BAS code.
 pub struct Header {
@@ -27,84 +26,12 @@ pub struct Header {
     pub code: u8,
 }
 
-// The places of a mode: voice owns octet bits 1 to `width`, data the last `columns` of bits 1 to 7 and SC octets `first` to `last`.
-pub struct Layout {
-    pub width: u8,
-    pub columns: u8,
-    pub first: u8,
-    pub last: u8,
-}
-
-// The sixteen rows of eight service bits, frames 0 to 15. Of the remainder the low four bits count.
-pub fn service_rows(a: bool, e: bool, t: bool, remainder: u8) -> [[bool; 8]; 16]
-    ensures { λ r. ⌜ r ≡ serviceRows a e t remainder ⌝ }
-{
-    let c1 = remainder / 8 % 2 == 1;
-    let c2 = remainder / 4 % 2 == 1;
-    let c3 = remainder / 2 % 2 == 1;
-    let c4 = remainder % 2 == 1;
-    let even = [false, false, false, true, true, false, true, true];
-    let channel = [true, false, false, true, true, false, true, true];
-    let alarm = [t, false, false, true, true, false, true, true];
-    let odd = [false, true, a, e, c1, c2, c3, c4];
-    let marked = [true, true, a, e, c1, c2, c3, c4];
-    [
-        even,
-        odd,
-        even,
-        odd,
-        even,
-        marked,
-        even,
-        odd,
-        even,
-        marked,
-        channel,
-        marked,
-        even,
-        odd,
-        alarm,
-        odd,
-    ]
-}
-
-// The layout of a mode. Where a mode is forged and its streams overlap, voice has its places and data what is left.
-pub fn layout_of(mode: Mode) -> Layout
-    ensures { λ r. ⌜ r ≡ layoutOf mode ⌝ }
-{
-    let voice = modes::held_by(mode, Owner::Voice);
-    let lsd = modes::held_by(mode, Owner::Lsd);
-    let left = 7 - voice.to;
-    let wanted = 8 - lsd.from;
-    if wanted <= left {
-        return Layout {
-            width: voice.to,
-            columns: wanted,
-            first: lsd.first,
-            last: lsd.last,
-        };
-    }
-    Layout {
-        width: voice.to,
-        columns: left,
-        first: lsd.first,
-        last: lsd.last,
-    }
-}
-
 // Bit `at` of a buffer.
 fn bit_at(buffer: &[u8], at: usize) -> usize
     requires { ⌜ at < 8 * length (now buffer) ⌝ }
     ensures { λ r. ⌜ r ≡ digit (getD (drop at (bitsOf (now (buffer .entry)))) 0 true) ⌝ }
 {
     ((buffer[at / 8] as usize) >> (7 - at % 8)) % 2
-}
-
-// Whether data's SC octets are whole eights of a frame.
-pub fn in_eights(p: Layout) -> bool
-    ensures { λ r. ⌜ r ≡ inEights p ⌝ }
-{
-    (p.first % 8 == 1) & (p.last % 8 == 0)
 }
 
 // How many of SC octets 1 to n data holds.
@@ -288,7 +215,7 @@ fn own_eights(lanes: &mut [usize], a: usize, b: usize, p: Layout, lsd: &[u8], d:
     ensures { λ _. ⌜ ((k : ℕ) → k < a → getD (now (lanes .exit)) k 0 ≡ getD (now (lanes .entry)) k 0) × ((service : List Bool) (k : ℕ) → a ≤ k → k < b → getD (now (lanes .exit)) k 0 ≡ wordAt (tailAt p service (drop d (bitsOf (now (lsd .entry))))) k) ⌝ }
 {
     let c = p.columns as usize;
-    if in_eights(p) {
+    if places::in_eights(p) {
         lay(lanes, a, b, lsd, d / 8 + a * c, c + 1, 0, 0);
         return;
     }
@@ -376,7 +303,7 @@ struct Service {
 fn service_of(header: Header) -> Service
     ensures { λ r. ⌜ lowBits 16 (r .even) ++ lowBits 16 (r .odd) ≡ serviceBits header ⌝ }
 {
-    let rows = service_rows(header.a, header.e, header.t, header.remainder);
+    let rows = service::service_rows(header.a, header.e, header.t, header.remainder);
     let block = header.block;
     let i = modes::even_frame(block).0 as usize;
     let j = modes::odd_frame(block).0 as usize;
@@ -402,13 +329,6 @@ fn fill_block(line: &mut [u8], p: Layout, service: Service, mute: bool, voice: &
     write_frame(&mut line[80..], p, service.odd, mute, voice, 80 * w, lsd, d);
 }
 
-// A line block is 160 octets, a voice buffer 140, a data buffer 156.
-pub fn lengths_fit(line: usize, voice: usize, lsd: usize) -> bool
-    ensures { λ r. ⌜ r ≡ fitting line voice lsd ⌝ }
-{
-    (line == 160) & (voice == 140) & (lsd == 156)
-}
-
 // Writes a block into a line of 160 octets, from 140 octets of voice and 156 of data. Where a length is wrong nothing is written,
 // and the answer is false.
 pub fn write_block(
@@ -421,77 +341,10 @@ pub fn write_block(
 ) -> bool
     ensures { λ r. ⌜ (r ≡ fitting (length (now (line .entry))) (length (now (voice .entry))) (length (now (lsd .entry)))) × (now (line .exit) ≡ lineAfter mode header mute (now (voice .entry)) (now (lsd .entry)) (now (line .entry))) ⌝ }
 {
-    if !lengths_fit(line.len(), voice.len(), lsd.len()) {
+    if !places::lengths_fit(line.len(), voice.len(), lsd.len()) {
         return false;
     }
-    let p = layout_of(mode);
+    let p = places::layout_of(mode);
     fill_block(line, p, service_of(header), mute, voice, lsd);
     true
-}
-
-// The SC bit of the octet at a place, counted from 0; 0 past the end.
-fn sc_bit(line: &[u8], at: usize) -> u8
-    ensures { λ r. ⌜ (r ≡ digit (odd (getD (now (line .entry)) at 0))) × (r ≤ 1) ⌝ }
-{
-    if at < line.len() {
-        return line[at] % 2;
-    }
-    0
-}
-
-// The number of n SC bits, eight at most, from a place on.
-fn channel(line: &[u8], at: usize, n: usize) -> u8
-    requires { ⌜ (n ≤ 8) × (at ≤ 88) ⌝ }
-    ensures { λ r. ⌜ r ≡ number (channelBits n at (now (line .entry))) ⌝ }
-{
-    let mut sum: u8 = 0;
-    for i in 0..n {
-        sum = sum * 2 + sc_bit(line, at + i);
-    }
-    sum
-}
-
-// How many bits of an octet are 1.
-fn weight_of(octet: u8) -> u8
-    ensures { λ r. ⌜ r ≡ weight (octetBits octet) ⌝ }
-{
-    octet / 128 % 2
-        + octet / 64 % 2
-        + octet / 32 % 2
-        + octet / 16 % 2
-        + octet / 8 % 2
-        + octet / 4 % 2
-        + octet / 2 % 2
-        + octet % 2
-}
-
-// How many of the eight bits of a block's alignment word are wrong: 0011011 in the even frame and 1 in the odd one.
-pub fn wrong_bits(line: &[u8]) -> u8
-    ensures { λ r. ⌜ r ≡ wrongBits (now (line .entry)) ⌝ }
-{
-    let word = channel(line, 1, 7) * 2 + sc_bit(line, 81);
-    weight_of(word ^ 0b0011_0111)
-}
-
-// The odd frame's first bit.
-pub fn odd_first(line: &[u8]) -> bool
-    ensures { λ r. ⌜ r ≡ oddFirst (now (line .entry)) ⌝ }
-{
-    sc_bit(line, 80) == 1
-}
-
-// C1 to C4, C1 highest.
-pub fn c_bits(line: &[u8]) -> u8
-    ensures { λ r. ⌜ r ≡ cBits (now (line .entry)) ⌝ }
-{
-    channel(line, 84, 4)
-}
-
-// The BAS word, back in its natural order.
-pub fn bas_word(line: &[u8]) -> u16
-    ensures { λ r. ⌜ r ≡ basWord (now (line .entry)) ⌝ }
-{
-    let even = channel(line, 8, 8);
-    let odd = channel(line, 88, 8);
-    bas::line_order((even as u16) * 256 + (odd as u16))
 }

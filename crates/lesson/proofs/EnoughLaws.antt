@@ -15,8 +15,8 @@ use Rattle.modes.specs.Owners.{holds, heldBy, some, clash, overlaps}
 use Rattle.modes.specs.Numbers.{following}
 use Rattle.modes.specs.Carried.{carried, senderCarries, openingOf}
 use Rattle.modes.specs.Commands.{mode, inRange, commandOf, offered}
-use Rattle.frame.specs.Channel.{channelBits, alignmentBits, wrongBits, basWord}
-use Rattle.frame.proofs.HeaderLaws.{right-alignment, code-back}
+use Rattle.service.specs.Channel.{channelBits, alignmentBits, wrongBits, basWord}
+use Rattle.round.proofs.HeaderLaws.{right-alignment, code-back}
 use Rattle.search.proofs.PlaceLaws.{found-fits}
 use Rattle.sender.specs.State.{stateInRange, freshWith}
 use Rattle.sender.specs.Rules.{ruleOf}

@@ -29,9 +29,9 @@ use Rattle.slots.specs.declared.Due.{Due}
 use Rattle.slots.specs.declared.Due.the-variants.{Plain, AnItem}
 use Rattle.slots.specs.declared.Reading.{Reading}
 use Rattle.frame.specs.Block.{blockOf}
-use Rattle.frame.specs.Channel.{wrongBits, oddFirst, cBits, basWord}
+use Rattle.service.specs.Channel.{wrongBits, oddFirst, cBits, basWord}
 use Rattle.frame.specs.declared.Header.{Header}
-use Rattle.frame.proofs.HeaderLaws.{each8, oddBit, right-alignment, first-bit-back, remainder-back, code-back}
+use Rattle.round.proofs.HeaderLaws.{each8, oddBit, right-alignment, first-bit-back, remainder-back, code-back}
 use Rattle.sender.specs.State.{itemDue}
 use Rattle.sender.specs.Plans.{dueNumber, planBy}
 use Rattle.sender.specs.Refusals.{goesAsItem}
@@ -57,7 +57,7 @@ use Rattle.reader.specs.declared.Answer.the-variants.{Block}
 use Rattle.reader.proofs.OutcomeLaws.{takes, told-taken}
 use Rattle.reader.proofs.RangeLaws.{due-back, step-in-range}
 use Rattle.sorter.specs.Sorting.{sortedOf}
-use Rattle.sorter.proofs.RoundLaws.{voice-bits-back, lsd-back}
+use Rattle.round.proofs.RoundLaws.{voice-bits-back, lsd-back}
 use Rattle.lesson.specs.Session.{Turn, after, Entry, log, blockSent, entryOf}
 use Rattle.lesson.specs.Demand2.{wordOf, LaidDown, GoesOn, BlockAfterBlock, OctetsLaidDown, wordDue, lastSix, KeptAsSent, Placed, InStep, Agrees, readerAfter, HandedBack, Back, AllBack, StaysInStep, JoinsAtNeutral}
 use Rattle.lesson.proofs.TurnLaws.{Stayed, Went, turn-cases, log-stayed, log-went}

@@ -9,7 +9,7 @@ use Rattle.modes.specs.Codes.{audioOff}
 use Rattle.modes.specs.Table.{audioTable, audioPlaces, beside}
 use Rattle.modes.specs.Owners.{heldBy}
 use Rattle.modes.specs.declared.Mode.{Mode}
-use Rattle.frame.specs.Layout.{layoutOf}
+use Rattle.places.specs.Layout.{layoutOf}
 use Rattle.frame.proofs.BlockLaws.{silent-muted, silent-off}
 use Rattle.sender.specs.State.{sounding}
 use Rattle.sender.specs.Step.{headerFor, blockFor, judged, outcomeBy, outcomeOf, lineBy, lineOf, Told}

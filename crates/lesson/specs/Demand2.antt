@@ -20,8 +20,9 @@ use Rattle.slots.specs.Slots.{standing}
 use Rattle.slots.specs.Readings.{readingIn}
 use Rattle.slots.specs.declared.Due.{Due}
 use Rattle.slots.specs.declared.Due.the-variants.{Plain, AnItem}
-use Rattle.frame.specs.Streams.{count}
-use Rattle.frame.specs.Block.{places, blockOf}
+use Rattle.places.specs.Streams.{count}
+use Rattle.places.specs.Places.{places}
+use Rattle.frame.specs.Block.{blockOf}
 use Rattle.sender.specs.State as sending
 use Rattle.sender.specs.State.{itemDue}
 use Rattle.sender.specs.Rules.{ruleOf}

@@ -7,7 +7,7 @@ use native.Mathlib.Omega.{arith}
 use lib.Dec.{eqb}
 use lib.ListN.{length}
 use borrow.Author.Tests.{eqb-true, eq-eqb}
-use Rattle.frame.specs.Block.{fitting}
+use Rattle.places.specs.Places.{fitting}
 use Rattle.reader.specs.State.{stateInRange}
 use Rattle.reader.specs.Signs.{signsOf}
 use Rattle.reader.specs.Refusals.{numberIn, rulingOf, refusalNumber}

@@ -7,7 +7,7 @@ use Rattle.bits.specs.Crc.{blockCrcOf}
 use Rattle.bas.specs.Reading.{readingOf}
 use Rattle.bas.specs.declared.Word.{Word}
 use Rattle.bas.specs.declared.Word.the-variants.{Unreadable}
-use Rattle.frame.specs.Channel.{wrongBits, oddFirst, cBits, basWord}
+use Rattle.service.specs.Channel.{wrongBits, oddFirst, cBits, basWord}
 use Rattle.reader.specs.declared.Signs.{Signs}
 
 -- BAS read if at most two of the eight alignment bits are wrong, else unreadable

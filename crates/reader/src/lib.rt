@@ -6,7 +6,7 @@ ghost use Prim.Native.Nat.{_≤_};
 ghost use lib.ListN.{length};
 ghost use Rattle.modes.specs.Codes.{audioOff, lsdOff};
 ghost use Rattle.modes.specs.Commands.{mode};
-ghost use Rattle.frame.specs.Block.{fitting};
+ghost use Rattle.places.specs.Places.{fitting};
 ghost use Rattle.reader.specs.State.{dueOf, slotOf, stateInRange, freshIn};
 ghost use Rattle.reader.specs.Signs.{wordIn, signsOf};
 ghost use Rattle.reader.specs.Parts.{counted, modeBefore, verdictOf, standingOf, readingOf, dueRead, lastSix, compared, placeAfter, keptAfter};
@@ -181,7 +181,7 @@ fn word_in(line: &[u8], wrong: u8) -> Word
     ensures { λ r. ⌜ r ≡ wordIn wrong (now (line .entry)) ⌝ }
 {
     if wrong <= 2 {
-        return bas::read_word(frame::bas_word(line));
+        return bas::read_word(service::bas_word(line));
     }
     Word::Unreadable
 }
@@ -189,9 +189,9 @@ fn word_in(line: &[u8], wrong: u8) -> Word
 fn signs_of(line: &[u8]) -> Signs
     ensures { λ r. ⌜ r ≡ signsOf (now (line .entry)) ⌝ }
 {
-    let wrong = frame::wrong_bits(line);
-    let c = frame::c_bits(line);
-    let first = frame::odd_first(line);
+    let wrong = service::wrong_bits(line);
+    let c = service::c_bits(line);
+    let first = service::odd_first(line);
     let word = word_in(line, wrong);
     let remainder = bits::block_crc(line);
     Signs {
@@ -393,7 +393,7 @@ fn step(s: Reader, line: &[u8]) -> Stepped
     requires { ⌜ (s .wrong ≤ 2) × (s .misses ≤ 2) ⌝ }
     ensures { λ r. ⌜ r ≡ stepOf s (signsOf (now (line .entry))) ⌝ }
 {
-    let wrong = frame::wrong_bits(line);
+    let wrong = service::wrong_bits(line);
     let run = count(s.wrong, wrong == 0);
     if run == 3 {
         let gone = fresh_in(mode_before(s));

@@ -1,5 +1,5 @@
 -- What a step leaves, by its ruling and by what the reader makes of a block.
-use mathlib.Core.Path.{_≡_, refl, sym, ap, _∙_}
+use mathlib.Core.Path.{_≡_, refl, ap, _∙_}
 use mathlib.Core.Bool.{Bool, true, false, not, cond, _||_}
 use mathlib.Core.List.{List}
 use Prim.Native.Nat.{ℕ, _+_, _≤_}
@@ -21,7 +21,6 @@ use Rattle.search.specs.declared.Found.{Found}
 use Rattle.search.proofs.PlaceLaws.{found-fits}
 use Rattle.recording.specs.Refusals.{rulingOf}
 use Rattle.recording.specs.Walk.{leftFrom, blockAt, readAt, blockRead, foundAgain, answerHere, offBlock, isLost, answerBy, placeBy, readerBy, steppedBy, voiceBy, lsdBy, answerAt, stepAt, lookAt, voiceAt, lsdAt, Moved, Ready}
-use Rattle.recording.specs.declared.Refusal.{Refusal}
 use Rattle.recording.specs.declared.Refusal.the-variants.{BadState, VoiceLength, DataLength, PastTheEnd}
 use Rattle.recording.specs.declared.Ruling.{Ruling}
 use Rattle.recording.specs.declared.Ruling.the-variants.{Refuse, Go}

@@ -12,9 +12,9 @@ use lib.Seq.{take-all}
 use borrow.Author.Tests.{leb-true, leb-false, lt-leb, ltb-false, eqb-true}
 use Rattle.bits.specs.Bits.{number}
 use Rattle.bits.proofs.BitLaws.{number-inj}
-use Rattle.frame.specs.Service.{evenAlignment}
-use Rattle.frame.specs.Channel.{channelBits}
-use Rattle.frame.proofs.ChannelLaws.{length-channel}
+use Rattle.service.specs.Service.{evenAlignment}
+use Rattle.service.specs.Channel.{channelBits}
+use Rattle.service.proofs.ChannelLaws.{length-channel}
 use Rattle.search.specs.Finding.{spells, aligned, firstOf, badLength, searchOf}
 use Rattle.search.specs.Groups.{firstFrom}
 use Rattle.search.specs.declared.Refusal.the-variants.{RecordingLength, NoPlace}

@@ -11,8 +11,8 @@ use lib.Seq.{getD-drop}
 use borrow.Author.Tests.{ne-eqb, le-leb}
 use Rattle.bits.specs.Bits.{odd, digit, number}
 use Rattle.bits.proofs.BitLaws.{number-bound, digit-odd}
-use Rattle.frame.specs.Service.{evenAlignment}
-use Rattle.frame.specs.Channel.{channelBits}
+use Rattle.service.specs.Service.{evenAlignment}
+use Rattle.service.specs.Channel.{channelBits}
 use Rattle.search.specs.Finding.{spells, aligned}
 
 -- ---- seven bits are 0011011, the number 27, or one of them is wrong; the first such makes the number too large or too small

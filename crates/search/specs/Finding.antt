@@ -5,8 +5,8 @@ use Prim.Native.Nat.{ℕ, zero, suc, _+_, _-_}
 use lib.Dec.{eqb, leb, ltb}
 use lib.ListN.{length, getD, drop}
 use Rattle.bits.specs.Bits.{odd, number}
-use Rattle.frame.specs.Service.{evenAlignment}
-use Rattle.frame.specs.Channel.{channelBits}
+use Rattle.service.specs.Service.{evenAlignment}
+use Rattle.service.specs.Channel.{channelBits}
 use Rattle.search.specs.declared.Refusal.{Refusal}
 use Rattle.search.specs.declared.Refusal.the-variants.{RecordingLength, NoPlace}
 use Rattle.search.specs.declared.Found.{Found}

@@ -5,7 +5,7 @@ use mathlib.Core.List.{List, [], _∷_}
 use Prim.Native.Nat.{ℕ}
 use native.Mathlib.Omega.{arith}
 use borrow.Author.Tests.{eqb-true, not-false, eq-eqb}
-use Rattle.frame.specs.Block.{fitting}
+use Rattle.places.specs.Places.{fitting}
 use Rattle.modes.specs.Carried.{senderCarries}
 use Rattle.sender.specs.State.{stateInRange}
 use Rattle.sender.specs.Rules.{ruleOf}

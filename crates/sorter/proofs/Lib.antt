@@ -1,4 +1,3 @@
 pub mod SortLaws
 pub mod LaneLaws
-pub mod RoundLaws
 pub mod FillLaws

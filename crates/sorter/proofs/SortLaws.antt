@@ -17,11 +17,11 @@ use Rattle.bits.proofs.Every.{and-left, and-right}
 use Rattle.bits.proofs.RunLaws.{drop-bitsOf, run-left, run-value, length-octet}
 use Rattle.modes.specs.declared.Owner.{Owner}
 use Rattle.modes.specs.declared.Owner.the-variants.{Service, Voice, Lsd, Nobody}
-use Rattle.frame.specs.Streams.{same, sort}
-use Rattle.frame.specs.Layout.{Apart, columnsBy, channelBy, rowBy, rowsBy, inEights}
-use Rattle.frame.specs.declared.Layout.{Layout}
-use Rattle.frame.proofs.StreamLaws.{sort-append, sort-all, sort-none}
-use Rattle.frame.proofs.LayoutLaws.{no-voice, length-row}
+use Rattle.places.specs.Streams.{same, sort}
+use Rattle.places.specs.Layout.{Apart, columnsBy, channelBy, rowBy, rowsBy, inEights}
+use Rattle.places.specs.declared.Layout.{Layout}
+use Rattle.places.proofs.StreamLaws.{sort-append, sort-all, sort-none}
+use Rattle.places.proofs.LayoutLaws.{no-voice, length-row}
 use Rattle.sorter.specs.Filled.{blockRows, sofar, runs}
 
 -- ---- the run of a stream in an octet

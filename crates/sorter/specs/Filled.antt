@@ -6,9 +6,9 @@ use Prim.Native.Nat.{ℕ, zero, suc, _+_, _%_}
 use lib.ListN.{length, getD, take, drop}
 use Rattle.bits.specs.Bits.{bitsOf, octetBits, octets}
 use Rattle.modes.specs.declared.Owner.{Owner}
-use Rattle.frame.specs.Streams.{sort}
-use Rattle.frame.specs.Layout.{rowBy}
-use Rattle.frame.specs.declared.Layout.{Layout}
+use Rattle.places.specs.Streams.{sort}
+use Rattle.places.specs.Layout.{rowBy}
+use Rattle.places.specs.declared.Layout.{Layout}
 
 -- the places of a block's first n octets: the odd frame's are those of the even one
 abbrev pub blockRows : Layout → ℕ → List Owner

@@ -5,15 +5,15 @@ ghost use mathlib.Core.List.{List, _++_};
 ghost use Prim.Native.Nat.{ℕ, _+_, _-_, _*_, _%_, _^_, _<_, _≤_};
 ghost use lib.ListN.{length, take, replicate};
 ghost use Rattle.bits.specs.Bits.{bitsOf, octets, number};
-ghost use Rattle.frame.specs.Streams.{sort};
-ghost use Rattle.frame.specs.Block.{fitting};
-ghost use Rattle.frame.specs.Layout.{Apart, rowsBy, inEights};
+ghost use Rattle.places.specs.Streams.{sort};
+ghost use Rattle.places.specs.Places.{fitting};
+ghost use Rattle.places.specs.Layout.{Apart, rowsBy, inEights};
 ghost use Rattle.modes.specs.declared.Owner.the-variants.{Voice, Lsd};
 ghost use Rattle.sorter.specs.Filled.{sofar, runs, Filled};
 ghost use Rattle.sorter.specs.Lanes.{picked, units};
 ghost use Rattle.sorter.specs.Sorting.{voiceAfter, lsdAfter};
-use frame::Layout;
 use modes::Mode;
+use places::Layout;
 
 // The bits of an octet that a stream holds, which stand together: `bits` of them after the first `start`.
 struct Run {
@@ -196,7 +196,7 @@ fn sort_with_sc(line: &[u8], p: Layout, out: &mut [u8])
     ensures { λ _. ⌜ now (out .exit) ≡ octets (length (now (out .entry))) (sort Lsd (rowsBy p 80 ++ rowsBy p 80) (bitsOf (now (line .entry)))) ⌝ }
 {
     clear(out);
-    if frame::in_eights(p) {
+    if places::in_eights(p) {
         let half = sort_frame(line, p, 0, out, 0);
         sort_frame(line, p, 80, out, half);
         return;
@@ -232,10 +232,10 @@ pub fn hand_out(line: &[u8], mode: Mode, voice: &mut [u8], lsd: &mut [u8]) -> bo
         × (now (voice .exit) ≡ voiceAfter mode (now (line .entry)) (now (voice .entry)) (now (lsd .entry)))
         × (now (lsd .exit) ≡ lsdAfter mode (now (line .entry)) (now (voice .entry)) (now (lsd .entry))) ⌝ }
 {
-    if !frame::lengths_fit(line.len(), voice.len(), lsd.len()) {
+    if !places::lengths_fit(line.len(), voice.len(), lsd.len()) {
         return false;
     }
-    let p = frame::layout_of(mode);
+    let p = places::layout_of(mode);
     sort_voice(line, p, voice);
     sort_lsd(line, p, lsd);
     true

@@ -7,7 +7,7 @@ use lib.ListN.{length, getD, drop, length-drop}
 use Rattle.bits.specs.Bits.{bitsOf, number}
 use Rattle.bits.proofs.BitLaws.{length-bitsOf}
 use Rattle.bits.proofs.RunLaws.{run-within}
-use Rattle.frame.proofs.StreamLaws.{nexts-take}
+use Rattle.places.proofs.StreamLaws.{nexts-take}
 use Rattle.frame.proofs.OctetLaws.{number-one}
 use borrow.Author.Needs.{needs}
 use Rattle.frame.proofs.bit_at.Statement.{statement}

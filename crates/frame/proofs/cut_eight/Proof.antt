@@ -11,7 +11,7 @@ use lib.ListN.{getD, drop}
 use lib.Pow.{pow-add, pow-mono}
 use Rattle.bits.specs.Bits.{bitsOf, digit}
 use Rattle.frame.specs.Block.{streams}
-use Rattle.frame.specs.Layout.{channelBy, sc}
+use Rattle.places.specs.Layout.{channelBy, sc}
 use Rattle.frame.specs.Eight.{tailAt}
 use Rattle.frame.proofs.PartLaws.{tail-bit}
 use Rattle.frame.proofs.WordLaws.{firsts, firsts-all}

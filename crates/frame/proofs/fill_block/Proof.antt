@@ -9,8 +9,8 @@ use lib.Seq.{length-take-le}
 use Rattle.bits.specs.Bits.{lowBits, bitsOf}
 use Rattle.bits.proofs.BitLaws.{length-lowBits}
 use Rattle.frame.specs.Block.{heard, streams}
-use Rattle.frame.specs.Layout.{frameBy}
-use Rattle.frame.proofs.LayoutLaws.{eights-through}
+use Rattle.frame.specs.Frame.{frameBy}
+use Rattle.places.proofs.LayoutLaws.{eights-through}
 use Rattle.frame.proofs.WrittenLaws.{second-half, two-frames, even-half, odd-half}
 use borrow.Author.Needs.{needs}
 use Rattle.frame.proofs.fill_block.Statement.{statement}

@@ -6,9 +6,9 @@ use denote.Ref.{now}
 use lib.ListN.{drop}
 use Rattle.bits.specs.Bits.{bitsOf}
 use Rattle.bits.proofs.BitLaws.{number-bound}
-use Rattle.frame.specs.Streams.{nexts}
+use Rattle.places.specs.Streams.{nexts}
 use Rattle.frame.specs.Eight.{eights, fieldOf}
-use Rattle.frame.proofs.StreamLaws.{length-nexts}
+use Rattle.places.proofs.StreamLaws.{length-nexts}
 use Rattle.frame.proofs.WordLaws.{lane-is}
 use borrow.Author.Needs.{needs}
 use Rattle.frame.proofs.lane.Statement.{statement}

@@ -7,8 +7,8 @@ use native.Mathlib.Nat.{mul-add, mul-one}
 use native.Mathlib.Omega.{arith}
 use denote.Ref.{now}
 use Rattle.bits.specs.Bits.{bitsOf}
-use Rattle.frame.specs.Layout.{inEights}
-use Rattle.frame.specs.declared.Layout.{Layout}
+use Rattle.places.specs.Layout.{inEights}
+use Rattle.places.specs.declared.Layout.{Layout}
 use Rattle.frame.proofs.TailLaws.{columns-to, columns-le, laid-owned}
 use borrow.Author.Needs.{needs}
 use Rattle.frame.proofs.own_eights.Statement.{statement}

@@ -7,12 +7,13 @@ use native.Mathlib.Omega.{arith}
 use borrow.Author.Tests.{not-true, not-false}
 use denote.Ref.{now}
 use Rattle.bits.specs.Bits.{bitsOf, octets}
-use Rattle.frame.specs.Streams.{fill}
+use Rattle.places.specs.Streams.{fill}
 use Rattle.frame.specs.Block.{heard, streams}
-use Rattle.frame.specs.Layout.{rowsBy}
-use Rattle.frame.specs.declared.Layout.{Layout}
-use Rattle.frame.proofs.BlockLaws.{lengths, told, block-is}
-use Rattle.frame.proofs.LayoutLaws.{apart-of}
+use Rattle.places.specs.Layout.{rowsBy}
+use Rattle.places.specs.declared.Layout.{Layout}
+use Rattle.places.proofs.LengthLaws.{lengths}
+use Rattle.frame.proofs.BlockLaws.{told, block-is}
+use Rattle.places.proofs.LayoutLaws.{apart-of}
 use borrow.Author.Needs.{needs}
 use Rattle.frame.proofs.write_block.Statement.{statement}
 use Rattle.frame.proofs.write_block.Tie as tie

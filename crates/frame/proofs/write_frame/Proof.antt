@@ -8,9 +8,10 @@ use lib.ListN.{length, getD, take, drop, drop-of-length-le}
 use lib.Seq.{take-all, paste}
 use Rattle.bits.specs.Bits.{lowBits, bitsOf}
 use Rattle.bits.proofs.PackLaws.{length-octets}
-use Rattle.frame.specs.Streams.{Streams, fill}
+use Rattle.places.specs.Streams.{Streams, fill}
 use Rattle.frame.specs.Block.{heard}
-use Rattle.frame.specs.Layout.{rowsBy, frameSources, frameBy}
+use Rattle.places.specs.Layout.{rowsBy}
+use Rattle.frame.specs.Frame.{frameSources, frameBy}
 use Rattle.frame.specs.Eight.{octetsIn, wordAt}
 use Rattle.frame.proofs.PartLaws.{octetAt, parts-are, word-lt, word-octets}
 use Rattle.frame.proofs.WrittenLaws.{eight-over}

@@ -12,12 +12,12 @@ use Rattle.bits.specs.Bits.{bitsOf, octets}
 use Rattle.modes.specs.declared.Mode.{Mode}
 use Rattle.modes.specs.declared.Owner.{Owner}
 use Rattle.modes.specs.declared.Owner.the-variants.{Voice, Lsd}
-use Rattle.frame.specs.Streams.{sort}
-use Rattle.frame.specs.Block.{places, fitting}
-use Rattle.frame.specs.Layout.{Apart, layoutOf, rowsBy}
-use Rattle.frame.specs.declared.Layout.{Layout}
-use Rattle.frame.proofs.LayoutLaws.{rows-are, apart-of}
-use Rattle.frame.proofs.BlockLaws.{lengths}
+use Rattle.places.specs.Streams.{sort}
+use Rattle.places.specs.Places.{places, fitting}
+use Rattle.places.specs.Layout.{Apart, layoutOf, rowsBy}
+use Rattle.places.specs.declared.Layout.{Layout}
+use Rattle.places.proofs.LayoutLaws.{rows-are, apart-of}
+use Rattle.places.proofs.LengthLaws.{lengths}
 use Rattle.sorter.specs.Sorting.{sortedOf, voiceAfter, lsdAfter}
 use Rattle.sorter.proofs.hand_out.Statement.{statement}
 use Rattle.sorter.proofs.hand_out.Tie as tie

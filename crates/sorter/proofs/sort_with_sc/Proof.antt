@@ -10,8 +10,8 @@ use lib.ListN.{length, replicate}
 use Rattle.bits.specs.Bits.{bitsOf}
 use Rattle.modes.specs.declared.Owner.{Owner}
 use Rattle.modes.specs.declared.Owner.the-variants.{Lsd}
-use Rattle.frame.specs.Streams.{sort}
-use Rattle.frame.specs.declared.Layout.{Layout}
+use Rattle.places.specs.Streams.{sort}
+use Rattle.places.specs.declared.Layout.{Layout}
 use Rattle.sorter.specs.Filled.{Filled, sofar}
 use Rattle.sorter.proofs.SortLaws.{none-yet, bits-alone, lsd-bits, block-all}
 use Rattle.sorter.proofs.FillLaws.{cleared, filled-with}

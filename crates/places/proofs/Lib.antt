@@ -1,0 +1,3 @@
+pub mod StreamLaws
+pub mod LayoutLaws
+pub mod LengthLaws

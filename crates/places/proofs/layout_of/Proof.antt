@@ -1,0 +1,46 @@
+-- `places::layout_of` meets its contract: each return by its test, and the table keeps its ranges.
+use mathlib.Core.Path.{_≡_, ap, ap₂, _∙_}
+use Prim.Native.Nat.{ℕ, _-_, min}
+use native.Mathlib.Omega.{arith}
+use Rattle.places.specs.Layout.{layoutOf}
+use Rattle.modes.specs.declared.Places.{Places}
+use Rattle.modes.specs.declared.Mode.{Mode}
+use Rattle.modes.specs.Owners.{heldBy}
+use Rattle.modes.proofs.TableLaws.{held-fit}
+use Rattle.modes.specs.declared.Owner.the-variants.{Voice, Lsd}
+use borrow.Author.Needs.{needs}
+use Rattle.places.proofs.layout_of.Statement.{statement}
+use Rattle.places.proofs.layout_of.Tie as tie
+
+laid : (m : Mode) (v d : Places) (n : ℕ) → v ≡ heldBy m Voice → d ≡ heldBy m Lsd → n ≡ min (8 - d .from) (7 - v .to)
+    → record { width = v .to; columns = n; first = d .first; last = d .last } ≡ layoutOf m
+unfolding layoutOf
+laid m v d n ev ed en =
+    ap (λ (k : ℕ). record { width = v .to; columns = k; first = d .first; last = d .last }) en
+    ∙ ap₂ (λ (x y : Places). record { width = x .to; columns = min (8 - y .from) (7 - x .to); first = y .first; last = y .last }) ev ed
+
+held-by-requires : tie.Need-held-by-requires
+held-by-requires c κs = search needs
+
+held-by-requires-2 : tie.Need-held-by-requires-2
+held-by-requires-2 c κs = search needs
+
+sub-left : tie.Need-sub-left
+sub-left c =
+    let a = c .before .before .before .args in
+    rw (c .before .before .held-by .ensures) (held-fit (a .mode) Voice .ends)
+
+sub-wanted : tie.Need-sub-wanted
+sub-wanted c =
+    let a = c .before .before .before .before .args in
+    rw (c .before .before .held-by2 .ensures) (omega (arith, held-fit (a .mode) Lsd .spans, held-fit (a .mode) Lsd .ends))
+
+returns : tie.Need-returns
+returns c = laid _ _ _ _ (c .before .before .before .before .held-by .ensures) (c .before .before .before .held-by2 .ensures) (omega arith)
+
+returns-2 : tie.Need-returns-2
+returns-2 c = laid _ _ _ _ (c .before .before .before .before .held-by .ensures) (c .before .before .before .held-by2 .ensures) (omega arith)
+
+pub layout-of-spec : {M : Type 1} → statement M
+layout-of-spec =
+    tie.close (tie.spec held-by-requires held-by-requires-2 sub-left sub-wanted returns returns-2)

@@ -1,0 +1,27 @@
+-- Document 01, 'Codes and bit places': the places of a frame in sending order, and how many octets a block and its buffers have.
+use mathlib.Core.Bool.{Bool, _&&_}
+use mathlib.Core.List.{List, [], _∷_, _++_}
+use Prim.Native.Nat.{ℕ, zero, suc}
+use lib.Dec.{eqb}
+use Rattle.modes.specs.Owners.{ownerOf}
+use Rattle.modes.specs.declared.Mode.{Mode}
+use Rattle.modes.specs.declared.Owner.{Owner}
+
+-- the eight places of an octet, bit 1 first
+unfoldable pub row : Mode → ℕ → List Owner
+row m octet =
+    ownerOf m octet 1 ∷ ownerOf m octet 2 ∷ ownerOf m octet 3 ∷ ownerOf m octet 4
+    ∷ ownerOf m octet 5 ∷ ownerOf m octet 6 ∷ ownerOf m octet 7 ∷ ownerOf m octet 8 ∷ []
+
+-- the places of octets 1 to n, in sending order
+unfoldable pub rows : Mode → ℕ → List Owner
+rows m zero = []
+rows m (suc n) = rows m n ++ row m (suc n)
+
+-- the 640 places of a frame
+unfoldable pub places : Mode → List Owner
+places m = rows m 80
+
+-- a line block is 160 octets, a voice buffer 140, a data buffer 156
+unfoldable pub fitting : ℕ → ℕ → ℕ → Bool
+fitting line voice lsd = eqb line 160 && eqb voice 140 && eqb lsd 156

@@ -1,0 +1,3 @@
+pub mod BackLaws
+pub mod HeaderLaws
+pub mod RoundLaws

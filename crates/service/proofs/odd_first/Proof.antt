@@ -1,0 +1,23 @@
+-- `service::odd_first` meets its contract: one SC bit.
+use mathlib.Core.Path.{_≡_, refl}
+use mathlib.Core.Bool.{Bool, true, false}
+use lib.Dec.{eqb}
+use Rattle.bits.specs.Bits.{digit}
+use Rattle.service.specs.Channel.{oddFirst}
+use borrow.Author.Needs.{needs}
+use Rattle.service.proofs.odd_first.Statement.{statement}
+use Rattle.service.proofs.odd_first.Tie as tie
+
+bit-back : (b : Bool) → eqb (digit b) 1 ≡ b
+bit-back true = refl
+bit-back false = refl
+
+sc-bit-requires : tie.Need-sc-bit-requires
+sc-bit-requires c κs = search needs
+
+returns : tie.Need-returns
+unfolding oddFirst
+returns c = rw (c .sc-bit .ensures .0) (bit-back _)
+
+pub odd-first-spec : {M : Type 1} → statement M
+odd-first-spec = tie.close (tie.spec sc-bit-requires returns)
