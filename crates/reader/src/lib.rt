@@ -1,12 +1,13 @@
 // The reader's step: state and block in; the next state and the answer out; voice and data handed out into the lent buffers (document
 // 01, 'Reading a block', 'CRC-4' and 'Refusal numbers').
 ghost use mathlib.Core.Path.{_≡_};
-ghost use mathlib.Core.Bool.{true};
+ghost use mathlib.Core.Bool.{true, _&&_};
 ghost use Prim.Native.Nat.{_≤_};
 ghost use lib.ListN.{length};
 ghost use Rattle.modes.specs.Codes.{audioOff, lsdOff};
-ghost use Rattle.modes.specs.Commands.{mode};
+ghost use Rattle.modes.specs.Commands.{mode, inRange};
 ghost use Rattle.places.specs.Places.{fitting};
+ghost use Rattle.service.specs.Channel.{wrongBits};
 ghost use Rattle.reader.specs.State.{dueOf, slotOf, stateInRange, freshIn};
 ghost use Rattle.reader.specs.Signs.{wordIn, signsOf};
 ghost use Rattle.reader.specs.Parts.{counted, modeBefore, verdictOf, standingOf, readingOf, dueRead, lastSix, compared, placeAfter, keptAfter};
@@ -105,6 +106,17 @@ pub struct Place {
     pub due: Due,
 }
 
+// Whether both modes of a state are in range. They are mostly one, which is then judged once.
+fn modes_in_range(mode: Mode, kept: Mode) -> bool
+    ensures { λ r. ⌜ r ≡ (inRange mode && inRange kept) ⌝ }
+{
+    let first = modes::in_range(mode);
+    if (kept.audio == mode.audio) & (kept.lsd == mode.lsd) {
+        return first;
+    }
+    first & modes::in_range(kept)
+}
+
 // Whether a state is in range.
 pub fn in_range(s: Reader) -> bool
     ensures { λ r. ⌜ r ≡ stateInRange s ⌝ }
@@ -113,12 +125,7 @@ pub fn in_range(s: Reader) -> bool
     let misses = s.misses;
     let remainder = s.remainder;
     let block = s.block.0;
-    modes::in_range(s.mode)
-        & modes::in_range(s.kept)
-        & (wrong <= 2)
-        & (misses <= 2)
-        & (remainder <= 15)
-        & (block <= 8)
+    modes_in_range(s.mode, s.kept) & (wrong <= 2) & (misses <= 2) & (remainder <= 15) & (block <= 8)
 }
 
 fn due_of(slot: Slot) -> Due
@@ -186,10 +193,11 @@ fn word_in(line: &[u8], wrong: u8) -> Word
     Word::Unreadable
 }
 
-fn signs_of(line: &[u8]) -> Signs
+// What a block shows, where so many of its alignment bits are wrong: they have been counted by now.
+fn signs_of(line: &[u8], wrong: u8) -> Signs
+    requires { ⌜ wrong ≡ wrongBits (now line) ⌝ }
     ensures { λ r. ⌜ r ≡ signsOf (now (line .entry)) ⌝ }
 {
-    let wrong = service::wrong_bits(line);
     let c = service::c_bits(line);
     let first = service::odd_first(line);
     let word = word_in(line, wrong);
@@ -407,7 +415,7 @@ fn step(s: Reader, line: &[u8]) -> Stepped
             report: lost,
         };
     }
-    let g = signs_of(line);
+    let g = signs_of(line, wrong);
     let report = report_of(s, g);
     let state = next_of(s, g, run);
     Stepped {

@@ -1,10 +1,7 @@
--- `reader::signs_of` meets its contract: five readings of the block.
+-- `reader::signs_of` meets its contract: four readings of the block, and what has been counted.
 use borrow.Author.Needs.{needs}
 use Rattle.reader.proofs.signs_of.Statement.{statement}
 use Rattle.reader.proofs.signs_of.Tie as tie
-
-wrong-bits-requires : tie.Need-wrong-bits-requires
-wrong-bits-requires c κs = search needs
 
 c-bits-requires : tie.Need-c-bits-requires
 c-bits-requires c κs = search needs
@@ -19,13 +16,12 @@ block-crc-requires : tie.Need-block-crc-requires
 block-crc-requires c κs = search needs
 
 returns : tie.Need-returns
-returns c = rw (c .block-crc .ensures, c .before .word-in .ensures, c .before .before .odd-first .ensures, c .before .before .before .c-bits .ensures, c .before .before .before .before .wrong-bits .ensures)
+returns c = rw (c .block-crc .ensures, c .before .word-in .ensures, c .before .before .odd-first .ensures, c .before .before .before .c-bits .ensures, c .before .before .before .before .before .pre)
 
 pub signs-of-spec : {M : Type 1} → statement M
 signs-of-spec =
     tie.close
     (tie.spec
-    wrong-bits-requires
     c-bits-requires
     odd-first-requires
     word-in-requires
