@@ -117,12 +117,13 @@ pub fn eight_at(octets: &[u8], at: usize) -> usize
 pub fn whole_eight_at(octets: &[u8], at: usize) -> usize
     ensures { λ r. ⌜ r ≡ cond (leb (at + 8) (length (now (octets .entry)))) (eightAt (now (octets .entry)) at) 0 ⌝ }
 {
-    if 8 <= octets.len() {
-        if at <= octets.len() - 8 {
-            return eight_within(octets, at);
-        }
+    if octets.len() < 8 {
+        return 0;
     }
-    0
+    if octets.len() - 8 < at {
+        return 0;
+    }
+    eight_within(octets, at)
 }
 
 // A sum is 64 bits that leave the remainder of all octets so far; this is the sum with eight more. They raise it by X^64. Divided by

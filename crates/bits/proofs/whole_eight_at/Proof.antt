@@ -1,4 +1,4 @@
--- `bits::whole_eight_at` meets its contract: both tests together say that all eight are there.
+-- `bits::whole_eight_at` meets its contract: each test says that an octet is missing, and both together that none is.
 use Prim.Native.Nat.{_+_}
 use native.Mathlib.Omega.{arith}
 use denote.Ref.{now}
@@ -8,26 +8,26 @@ use borrow.Author.Needs.{needs}
 use Rattle.bits.proofs.whole_eight_at.Statement.{statement}
 use Rattle.bits.proofs.whole_eight_at.Tie as tie
 
-sub-if2 : tie.Need-sub-if2
-sub-if2 c = search needs
-
-eight-within-requires : tie.Need-eight-within-requires
-eight-within-requires c κs = search needs
-
 returns : tie.Need-returns
 returns c =
-    let a = c .before .before .before .before .args in
-    rw (le-leb (a .at + 8) (length (now (a .octets))) (omega arith)) (c .eight-within .ensures)
+    let a = c .before .before .args in
+    rw (lt-leb (a .at + 8) (length (now (a .octets))) (omega arith))
+
+sub-if2 : tie.Need-sub-if2
+sub-if2 c = search needs
 
 returns-2 : tie.Need-returns-2
 returns-2 c =
     let a = c .before .before .before .args in
     rw (lt-leb (a .at + 8) (length (now (a .octets))) (omega arith))
 
+eight-within-requires : tie.Need-eight-within-requires
+eight-within-requires c κs = search needs
+
 returns-3 : tie.Need-returns-3
 returns-3 c =
-    let a = c .before .before .args in
-    rw (lt-leb (a .at + 8) (length (now (a .octets))) (omega arith))
+    let a = c .before .before .before .before .args in
+    rw (le-leb (a .at + 8) (length (now (a .octets))) (omega arith)) (c .eight-within .ensures)
 
 pub whole-eight-at-spec : {M : Type 1} → statement M
-whole-eight-at-spec = tie.close (tie.spec sub-if2 eight-within-requires returns returns-2 returns-3)
+whole-eight-at-spec = tie.close (tie.spec returns sub-if2 returns-2 eight-within-requires returns-3)
