@@ -53,11 +53,12 @@ nextOf s g run =
       remainder = g .remainder;
     }
 
+abbrev pub onStep : Reader → Signs → ℕ → Stepped
+onStep s g run = record { state = nextOf s g run; report = reportOf s g }
+
 -- where alignment is lost, steps 2 to 4 are skipped
 unfoldable pub stepOf : Reader → Signs → Stepped
-stepOf s g =
-    cond (eqb (wrongRun s g) 3) (lostStep s)
-    (record { state = nextOf s g (wrongRun s g); report = reportOf s g })
+stepOf s g = cond (eqb (wrongRun s g) 3) (lostStep s) (onStep s g (wrongRun s g))
 
 -- voice and data handed out by the mode at entry; buffers zero where the block is lost or its place unknown
 abbrev pub voiceBy : Standing → Mode → List ℕ → List ℕ

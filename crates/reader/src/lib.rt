@@ -12,7 +12,7 @@ ghost use Rattle.reader.specs.State.{dueOf, slotOf, stateInRange, freshI
 ghost use Rattle.reader.specs.Signs.{wordIn, signsOf};
 ghost use Rattle.reader.specs.Parts.{counted, modeBefore, verdictOf, standingOf, readingOf, dueRead, lastSix, compared, placeAfter, keptAfter};
 ghost use Rattle.reader.specs.Refusals.{numberOf, rulingOf};
-ghost use Rattle.reader.specs.Step.{reportOf, nextOf, stepOf, voiceBy, lsdBy, lookOf, Told};
+ghost use Rattle.reader.specs.Step.{lostStep, reportOf, nextOf, onStep, stepOf, voiceBy, lsdBy, lookOf, Told};
 use bas::Word;
 use modes::BlockNumber;
 use modes::Mode;
@@ -396,6 +396,36 @@ fn next_of(s: Reader, g: Signs, run: u8) -> Reader
     }
 }
 
+// The step over a block that is lost: the mode goes back, and the rest is fresh.
+fn lose(s: Reader) -> Stepped
+    ensures { λ r. ⌜ r ≡ lostStep s ⌝ }
+{
+    let gone = fresh_in(mode_before(s));
+    let lost = Report {
+        standing: Standing::Lost,
+        verdict: Verdict::None,
+        reading: Reading::NotRead,
+    };
+    Stepped {
+        state: gone,
+        report: lost,
+    }
+}
+
+// The step over a block that is not lost, where so many of its alignment bits are wrong and its alignment word makes so long a run.
+fn go_on(s: Reader, line: &[u8], wrong: u8, run: u8) -> Stepped
+    requires { ⌜ (s .misses ≤ 2) × (wrong ≡ wrongBits (now line)) ⌝ }
+    ensures { λ r. ⌜ r ≡ onStep s (signsOf (now (line .entry))) run ⌝ }
+{
+    let g = signs_of(line, wrong);
+    let report = report_of(s, g);
+    let state = next_of(s, g, run);
+    Stepped {
+        state: state,
+        report: report,
+    }
+}
+
 // The step over a block: the third wrong alignment word in a row is a loss, and nothing else of the block is looked at.
 fn step(s: Reader, line: &[u8]) -> Stepped
     requires { ⌜ (s .wrong ≤ 2) × (s .misses ≤ 2) ⌝ }
@@ -404,24 +434,9 @@ fn step(s: Reader, line: &[u8]) -> Stepped
     let wrong = service::wrong_bits(line);
     let run = count(s.wrong, wrong == 0);
     if run == 3 {
-        let gone = fresh_in(mode_before(s));
-        let lost = Report {
-            standing: Standing::Lost,
-            verdict: Verdict::None,
-            reading: Reading::NotRead,
-        };
-        return Stepped {
-            state: gone,
-            report: lost,
-        };
+        return lose(s);
     }
-    let g = signs_of(line, wrong);
-    let report = report_of(s, g);
-    let state = next_of(s, g, run);
-    Stepped {
-        state: state,
-        report: report,
-    }
+    go_on(s, line, wrong, run)
 }
 
 // Voice and data by the mode where the block is read, and zeros where it is not.
