@@ -249,6 +249,18 @@ mended w h ne =
     reads w (flipped w f) (xor-lt 8 (w / 256) (f / 256 % 256) hw hf)
     (le-leb (weight (xors x (wordBits (flipped w f)))) 2 (subst (λ (l : List Bool). weight l ≤ 2) (sym off) light-y))
 
+-- no remainder: the word is its code's
+no-flip : flipsAt 0 ≡ 0
+unfolding flipsAt flipTable filled syndrome lights number remainder continued fed xors scaled xor
+no-flip = refl
+
+pub unharmed : (w : ℕ) → w < 65536 → number (syndrome (lowBits 16 w)) ≡ 0 → readingOf w ≡ Code (w / 256)
+unharmed w h e =
+    let none : flipsAt (number (syndrome (lowBits 16 w))) ≡ 0 = ap flipsAt e ∙ no-flip in
+    mended w h (λ all. omega arith)
+    ∙ ap (λ (f : ℕ). Code (bitXor (w / 256) (f / 256 % 256))) none
+    ∙ ap Code (xor-zero-r (w / 256))
+
 -- ---- what the definition means for a word that was sent
 unreadable≢code : (c : ℕ) → Unreadable ≡ Code c → ⊥
 unreadable≢code c e = let z : _≡_ {A = ℕ} 0 1 = cc in omega arith

@@ -588,14 +588,17 @@ fn flips(remainder: u8) -> u16
     FLIPS[remainder as usize]
 }
 
-// The reading of a word that came, in its natural order.
+// The reading of a word that came, in its natural order. Most words come unharmed, and the table is read only for the others.
 pub fn read_word(word: u16) -> Word
     ensures { λ r. ⌜ r ≡ readingOf word ⌝ }
 {
     let code = (word / 256) as u8;
     let check = (word % 256) as u8;
-    let expected = check_octet(code);
-    let flip = flips(expected ^ check);
+    let remainder = check_octet(code) ^ check;
+    if remainder == 0 {
+        return Word::Code(code);
+    }
+    let flip = flips(remainder);
     if flip == 65535 {
         return Word::Unreadable;
     }
