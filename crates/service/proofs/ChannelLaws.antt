@@ -1,16 +1,17 @@
 -- Laws of the service channel of a block that came, and that the service bits of a block that was written are read back.
 use mathlib.Core.Path.{_≡_, refl, ap, ap₂, sym, _∙_}
-use mathlib.Core.Bool.{Bool, true}
+use mathlib.Core.Bool.{Bool, true, false}
 use mathlib.Core.List.{List, [], _∷_, _++_}
-use Prim.Native.Nat.{ℕ, zero, suc, _+_, _*_, _^_, _≤_, _<_}
-use native.Mathlib.Nat.{add-zero, mul-one}
-use native.Mathlib.Numerals.{add-one}
+use Prim.Native.Nat.{ℕ, zero, suc, _+_, _*_, _/_, _%_, _^_, _≤_, _<_}
+use native.Mathlib.Nat.{add-zero, zero-add, suc-add, mul-one, lt-of-lt-of-le}
 use native.Mathlib.Omega.{arith}
-use lib.Pow.{pow-mono}
+use lib.Pow.{pow-mono, high, low}
 use lib.ListN.{length, getD}
-use lib.Bits.{bitXor}
+use lib.Bits.{bitXor, xor-lt}
+use lib.Count.{onesIn, ones, ones-cat}
+use lib.Dec.{lit<}
 use Rattle.bits.specs.Bits.{odd, lowBits, octetBits, digit, number, xors}
-use Rattle.bits.proofs.BitLaws.{number-append, number-bound, lowBits-xor, lowBits-back, lowBits-two}
+use Rattle.bits.proofs.BitLaws.{number-append, number-bound, number-fits, lowBits-xor, lowBits-back, lowBits-two}
 use Rattle.bas.specs.Words.{lineOrder}
 use Rattle.bas.specs.Reading.{weight}
 use Rattle.service.specs.Service.{evenAlignment}
@@ -21,43 +22,51 @@ unfolding channelBits
 length-channel zero at line = refl
 length-channel (suc n) at line = ap suc (length-channel n (at + 1) line)
 
--- one bit more
-channel-more : (n at : ℕ) (line : List ℕ) → channelBits (suc n) at line ≡ channelBits n at line ++ (odd (getD line (at + n) 0) ∷ [])
+-- in two parts
+channel-parts : (n k at : ℕ) (line : List ℕ) → channelBits (n + k) at line ≡ channelBits n at line ++ channelBits k (at + n) line
 unfolding channelBits
-channel-more zero at line = ap (λ (k : ℕ). odd (getD line k 0) ∷ []) (sym (add-zero at))
-channel-more (suc n) at line =
+channel-parts zero k at line = ap₂ (λ (i j : ℕ). channelBits i j line) (zero-add k) (sym (add-zero at))
+channel-parts (suc n) k at line =
     let e : at + 1 + n ≡ at + suc n = omega arith in
-    ap (λ (l : List Bool). odd (getD line at 0) ∷ l) (channel-more n (at + 1) line ∙ ap (λ (k : ℕ). channelBits n (at + 1) line ++ (odd (getD line k 0) ∷ [])) e)
+    ap (λ (i : ℕ). channelBits i at line) (suc-add n k)
+    ∙ ap (λ (l : List Bool). odd (getD line at 0) ∷ l)
+    (channel-parts n k (at + 1) line ∙ ap (λ (j : ℕ). channelBits n (at + 1) line ++ channelBits k j line) e)
 
-number-snoc : (l : List Bool) (b : Bool) → number (l ++ (b ∷ [])) ≡ number l * 2 + digit b
-unfolding number
-number-snoc l b = number-append l (b ∷ []) ∙ rw (mul-one, add-zero)
+channel-lt : (n at : ℕ) (line : List ℕ) → number (channelBits n at line) < 2 ^ n
+channel-lt n at line = rw length-channel at (number-bound (channelBits n at line))
+
+channel-number : (n k at : ℕ) (line : List ℕ)
+    → number (channelBits (n + k) at line) ≡ number (channelBits n at line) * 2 ^ k + number (channelBits k (at + n) line)
+channel-number n k at line =
+    ap number (channel-parts n k at line) ∙ number-append (channelBits n at line) (channelBits k (at + n) line) ∙ rw length-channel
+
+first-of : (n k at : ℕ) (line : List ℕ) → number (channelBits (n + k) at line) / 2 ^ k ≡ number (channelBits n at line)
+first-of n k at line =
+    ap (λ (x : ℕ). x / 2 ^ k) (channel-number n k at line) ∙ high (number (channelBits n at line)) k (channel-lt k (at + n) line)
+
+pub last-of : (n k at : ℕ) (line : List ℕ) → number (channelBits (n + k) at line) % 2 ^ k ≡ number (channelBits k (at + n) line)
+last-of n k at line =
+    ap (λ (x : ℕ). x % 2 ^ k) (channel-number n k at line) ∙ low (number (channelBits n at line)) k (channel-lt k (at + n) line)
+
+-- one bit more; seven at most leave room for it in an octet
+one-bit : (at : ℕ) (line : List ℕ) → number (channelBits 1 at line) ≡ digit (odd (getD line at 0))
+unfolding channelBits number
+one-bit at line = rw (mul-one, add-zero)
 
 pub channel-turn : (n at : ℕ) (line : List ℕ)
     → number (channelBits n at line) * 2 + digit (odd (getD line (at + n) 0)) ≡ number (channelBits (n + 1) at line)
-channel-turn n at line =
-    sym (ap (λ (k : ℕ). number (channelBits k at line)) (add-one n)
-    ∙ ap number (channel-more n at line)
-    ∙ number-snoc (channelBits n at line) (odd (getD line (at + n) 0)))
+channel-turn n at line = sym (channel-number n 1 at line ∙ ap (λ (x : ℕ). number (channelBits n at line) * 2 + x) (one-bit (at + n) line))
 
--- seven bits at most leave room for one more in an octet
 pub channel-small : (n at : ℕ) (line : List ℕ) → n ≤ 7 → number (channelBits n at line) < 128
-channel-small n at line h =
-    let m : 2 ^ n ≤ 2 ^ 7 = pow-mono h in
-    omega (arith, rw length-channel at (number-bound (channelBits n at line)))
+channel-small n at line h = lt-of-lt-of-le (channel-lt n at line) (pow-mono h)
 
 -- the alignment word as an octet, and how many of its bits are wrong
-one-bit : (at : ℕ) (line : List ℕ) → channelBits 1 at line ≡ odd (getD line at 0) ∷ []
-unfolding channelBits
-one-bit at line = refl
-
-alignment-number : (line : List ℕ) (seven one : ℕ) → seven ≡ number (channelBits 7 1 line) → one ≡ digit (odd (getD line 81 0))
-    → seven * 2 + one ≡ number (alignmentBits line)
+alignment-number : (line : List ℕ) (row one : ℕ) → row ≡ number (channelBits 8 1 line) → one ≡ digit (odd (getD line 81 0))
+    → row / 2 * 2 + one ≡ number (alignmentBits line)
 unfolding alignmentBits
-alignment-number line seven one e f =
-    ap₂ (λ (x y : ℕ). x * 2 + y) e f
-    ∙ sym (number-snoc (channelBits 7 1 line) (odd (getD line 81 0)))
-    ∙ ap (λ (l : List Bool). number (channelBits 7 1 line ++ l)) (sym (one-bit 81 line))
+alignment-number line row one e f =
+    ap₂ (λ (x y : ℕ). x * 2 + y) (ap (λ (x : ℕ). x / 2) e ∙ first-of 7 1 1 line) (f ∙ sym (one-bit 81 line))
+    ∙ sym (number-append (channelBits 7 1 line) (channelBits 1 81 line) ∙ rw length-channel)
 
 length-alignment : (line : List ℕ) → length (alignmentBits line) ≡ 8
 unfolding alignmentBits channelBits
@@ -67,12 +76,26 @@ right-word : octetBits 55 ≡ evenAlignment ++ (true ∷ [])
 unfolding lowBits odd
 right-word = refl
 
-pub wrong-are : (line : List ℕ) (seven one : ℕ) → seven ≡ number (channelBits 7 1 line) → one ≡ digit (odd (getD line 81 0))
-    → weight (octetBits (bitXor (seven * 2 + one) 55)) ≡ wrongBits line
+ones-digit : (b : Bool) → ones (digit b) ≡ digit b
+unfolding ones onesIn
+ones-digit true = refl
+ones-digit false = refl
+
+ones-number : (bs : List Bool) → ones (number bs) ≡ weight bs
+unfolding number weight ones onesIn
+ones-number [] = refl
+ones-number (b ∷ bs) = ones-cat (length bs) (digit b) (number bs) (number-bound bs) ∙ ap₂ _+_ (ones-digit b) (ones-number bs)
+
+pub wrong-are : (line : List ℕ) (row one : ℕ) → row ≡ number (channelBits 8 1 line) → one ≡ digit (odd (getD line 81 0))
+    → ones (bitXor (row / 2 * 2 + one) 55) ≡ wrongBits line
 unfolding wrongBits
-wrong-are line seven one e f =
-    ap weight (lowBits-xor 8 (seven * 2 + one) 55
-    ∙ ap₂ xors (ap octetBits (alignment-number line seven one e f) ∙ lowBits-back 8 (alignmentBits line) (length-alignment line)) right-word)
+wrong-are line row one e f =
+    let word = alignmentBits line in
+    let fits : number word < 256 = rw length-alignment at (number-bound word) in
+    ap (λ (x : ℕ). ones (bitXor x 55)) (alignment-number line row one e f)
+    ∙ ap ones (sym (number-fits 8 (bitXor (number word) 55) (xor-lt 8 (number word) 55 fits (lit< tt))))
+    ∙ ones-number (octetBits (bitXor (number word) 55))
+    ∙ ap weight (lowBits-xor 8 (number word) 55 ∙ ap₂ xors (lowBits-back 8 word (length-alignment line)) right-word)
 
 -- the BAS word, from its two octets
 pub word-is : (line : List ℕ) (even odds : ℕ) → even ≡ number (channelBits 8 8 line) → odds ≡ number (channelBits 8 88 line)
@@ -81,7 +104,7 @@ unfolding basWord
 word-is line even odds e f =
     let b = channelBits 8 8 line in
     let p = channelBits 8 88 line in
-    let small : number p < 256 = rw length-channel at (number-bound p) in
+    let small : number p < 256 = channel-lt 8 88 line in
     ap₂ (λ (x y : ℕ). number (lineOrder (lowBits 16 (x * 256 + y)))) e f
     ∙ ap (λ (l : List Bool). number (lineOrder l))
     (lowBits-two (number b) (number p) small

@@ -1,1 +1,2 @@
 pub mod ChannelLaws
+pub mod RowLaws

@@ -2,8 +2,7 @@
 ghost use mathlib.Core.Path.{_≡_};
 ghost use Prim.Native.Nat.{_≤_};
 ghost use lib.ListN.{getD};
-ghost use Rattle.bits.specs.Bits.{odd, octetBits, digit, number};
-ghost use Rattle.bas.specs.Reading.{weight};
+ghost use Rattle.bits.specs.Bits.{odd, digit, number};
 ghost use Rattle.service.specs.Service.{serviceRows};
 ghost use Rattle.service.specs.Channel.{channelBits, wrongBits, oddFirst, cBits, basWord};
 
@@ -50,38 +49,39 @@ fn sc_bit(line: &[u8], at: usize) -> u8
     0
 }
 
-// The number of n SC bits, eight at most, from a place on.
-fn channel(line: &[u8], at: usize, n: usize) -> u8
-    requires { ⌜ (n ≤ 8) × (at ≤ 88) ⌝ }
-    ensures { λ r. ⌜ r ≡ number (channelBits n at (now (line .entry))) ⌝ }
+// The SC bits of eight octets from a place on as one number, the first highest, one by one.
+fn row_in_turn(line: &[u8], at: usize) -> u8
+    requires { ⌜ at ≤ 88 ⌝ }
+    ensures { λ r. ⌜ r ≡ number (channelBits 8 at (now (line .entry))) ⌝ }
 {
-    let mut sum: u8 = 0;
-    for i in 0..n {
-        sum = sum * 2 + sc_bit(line, at + i);
+    let mut row: u8 = 0;
+    for i in 0..8 {
+        row = row * 2 + sc_bit(line, at + i);
     }
-    sum
+    row
 }
 
-// How many bits of an octet are 1.
-fn weight_of(octet: u8) -> u8
-    ensures { λ r. ⌜ r ≡ weight (octetBits octet) ⌝ }
+// The same, at once where all eight are there: each octet's bit is laid beside the next one's, each two beside the next two, and four beside
+// four, so that the lowest octet has all eight in the end.
+fn row_at(line: &[u8], at: usize) -> u8
+    requires { ⌜ at ≤ 88 ⌝ }
+    ensures { λ r. ⌜ r ≡ number (channelBits 8 at (now (line .entry))) ⌝ }
 {
-    octet / 128 % 2
-        + octet / 64 % 2
-        + octet / 32 % 2
-        + octet / 16 % 2
-        + octet / 8 % 2
-        + octet / 4 % 2
-        + octet / 2 % 2
-        + octet % 2
+    if line.len() < at + 8 {
+        return row_in_turn(line, at);
+    }
+    let ones = bits::whole_eight_at(line, at) & 0x0101_0101_0101_0101;
+    let twos = ones | (ones >> 7);
+    let fours = twos | (twos >> 14);
+    ((fours | (fours >> 28)) % 256) as u8
 }
 
 // How many of the eight bits of a block's alignment word are wrong: 0011011 in the even frame and 1 in the odd one.
 pub fn wrong_bits(line: &[u8]) -> u8
     ensures { λ r. ⌜ r ≡ wrongBits (now (line .entry)) ⌝ }
 {
-    let word = channel(line, 1, 7) * 2 + sc_bit(line, 81);
-    weight_of(word ^ 0b0011_0111)
+    let word = row_at(line, 1) / 2 * 2 + sc_bit(line, 81);
+    u8::count_ones(word ^ 0b0011_0111) as u8
 }
 
 // The odd frame's first bit.
@@ -95,14 +95,14 @@ pub fn odd_first(line: &[u8]) -> bool
 pub fn c_bits(line: &[u8]) -> u8
     ensures { λ r. ⌜ r ≡ cBits (now (line .entry)) ⌝ }
 {
-    channel(line, 84, 4)
+    row_at(line, 80) % 16
 }
 
 // The BAS word, back in its natural order.
 pub fn bas_word(line: &[u8]) -> u16
     ensures { λ r. ⌜ r ≡ basWord (now (line .entry)) ⌝ }
 {
-    let even = channel(line, 8, 8);
-    let odd = channel(line, 88, 8);
+    let even = row_at(line, 8);
+    let odd = row_at(line, 88);
     bas::line_order((even as u16) * 256 + (odd as u16))
 }

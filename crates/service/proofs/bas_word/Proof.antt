@@ -5,11 +5,11 @@ use borrow.Author.Needs.{needs}
 use Rattle.service.proofs.bas_word.Statement.{statement}
 use Rattle.service.proofs.bas_word.Tie as tie
 
-channel-requires : tie.Need-channel-requires
-channel-requires c κs = search needs
+row-at-requires : tie.Need-row-at-requires
+row-at-requires c κs = search needs
 
-channel-requires-2 : tie.Need-channel-requires-2
-channel-requires-2 c κs = search needs
+row-at-requires-2 : tie.Need-row-at-requires-2
+row-at-requires-2 c κs = search needs
 
 cast-line-order : tie.Need-cast-line-order
 cast-line-order c = search needs
@@ -27,14 +27,14 @@ line-order-requires : tie.Need-line-order-requires
 line-order-requires c κs = search needs
 
 returns : tie.Need-returns
-returns c = c .line-order .ensures ∙ word-is _ _ _ (c .before .before .channel .ensures) (c .before .channel2 .ensures)
+returns c = c .line-order .ensures ∙ word-is _ _ _ (c .before .before .row-at .ensures) (c .before .row-at2 .ensures)
 
 pub bas-word-spec : {M : Type 1} → statement M
 bas-word-spec =
     tie.close
     (tie.spec
-    channel-requires
-    channel-requires-2
+    row-at-requires
+    row-at-requires-2
     cast-line-order
     mul-line-order
     cast-line-order-2

@@ -1,25 +1,25 @@
--- `service::channel` meets its contract: the loop's invariant: the sum is the number of the bits passed.
+-- `service::row_in_turn` meets its contract: the loop's invariant: the row is the number of the bits passed.
 use mathlib.Core.Path.{_≡_, refl, ap, ap₂, _∙_}
 use Prim.Native.Nat.{ℕ, _+_, _-_, _*_, _≤_}
 use native.Mathlib.Omega.{arith}
 use Rattle.bits.specs.Bits.{number}
 use Rattle.service.specs.Channel.{channelBits}
 use Rattle.service.proofs.ChannelLaws.{channel-turn, channel-small}
-use Rattle.service.proofs.channel.Statement.{statement}
-use Rattle.service.proofs.channel.Tie as tie
+use Rattle.service.proofs.row_in_turn.Statement.{statement}
+use Rattle.service.proofs.row_in_turn.Tie as tie
 
 abbrev Inv-loop : tie.InvT-loop
-Inv-loop line at n sum₀ i₀ sum i = (i ≤ n) × (sum ≡ number (channelBits i at line))
+Inv-loop line at row₀ i₀ row i = (i ≤ 8) × (row ≡ number (channelBits i at line))
 
 abbrev μ-loop : tie.MeasureT-loop
-μ-loop line at n sum₀ i₀ sum i = n - i
+μ-loop line at row₀ i₀ row i = 8 - i
 
 loop-holds : tie.Need-loop-holds Inv-loop μ-loop
 unfolding number channelBits
 loop-holds c = (omega arith, refl)
 
-mul-sum : tie.Need-mul-sum Inv-loop μ-loop
-mul-sum c =
+mul-row : tie.Need-mul-row Inv-loop μ-loop
+mul-row c =
     let a = c .before .before .before .args in
     let l = c .before .loop in
     omega (arith, l .inv .1, channel-small (l .i) (a .at) (a .line .now) (omega arith))
@@ -30,8 +30,8 @@ add-sc-bit c = omega arith
 sc-bit-requires : tie.Need-sc-bit-requires Inv-loop μ-loop
 sc-bit-requires c κs = tt
 
-add-sum : tie.Need-add-sum Inv-loop μ-loop
-add-sum c =
+add-row : tie.Need-add-row Inv-loop μ-loop
+add-row c =
     let a = c .before .before .before .before .args in
     let l = c .before .before .loop in
     omega (arith, l .inv .1, c .sc-bit .ensures .1, channel-small (l .i) (a .at) (a .line .now) (omega arith))
@@ -54,20 +54,20 @@ returns : tie.Need-returns Inv-loop μ-loop
 returns c =
     let a = c .before .before .before .args in
     let l = c .before .loop in
-    let e : l .i ≡ a .n = omega arith in
+    let e : l .i ≡ 8 = omega arith in
     l .inv .1 ∙ ap (λ (k : ℕ). number (channelBits k (a .at) (a .line .now))) e
 
-pub channel-spec : {M : Type 1} → statement M
-channel-spec =
+pub row-in-turn-spec : {M : Type 1} → statement M
+row-in-turn-spec =
     tie.close
     (tie.spec
     Inv-loop
     μ-loop
     loop-holds
-    mul-sum
+    mul-row
     add-sc-bit
     sc-bit-requires
-    add-sum
+    add-row
     add-i
     loop-less
     loop-again
