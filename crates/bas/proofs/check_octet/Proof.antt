@@ -1,22 +1,38 @@
--- `bas::check_octet` meets its contract: the table's rule is one test over its 256 entries, which antt computes.
-use mathlib.Core.Bool.{xor}
-use Prim.Native.Nat.{_<_}
+-- `bas::check_octet` meets its contract: that it gives the remainder is one test over the 256 codes, which antt computes.
+use mathlib.Core.Path.{_≡_, refl}
+use mathlib.Core.Bool.{Bool, true, xor}
+use Prim.Native.Nat.{ℕ, _*_, _/_, _%_, _^_}
 use borrow.Author.Needs.{needs}
+use borrow.Author.Tests.{eqb-true}
+use lib.Bits.{bitXor}
+use lib.Dec.{eqb}
 use Rattle.bits.specs.Bits.{odd, lowBits, number, xors}
 use Rattle.bits.specs.Remainder.{scaled, fed, continued, remainder}
-use Rattle.bits.proofs.Table.{entry}
+use Rattle.bits.proofs.Every.{everyBelow, below}
+use Rattle.bas.specs.Words.{checkOf}
 use Rattle.bas.proofs.check_octet.Statement.{statement}
 use Rattle.bas.proofs.check_octet.Tie as tie
-use Rattle.bas.specs.Words.{checkOf}
 
-array-read-result : tie.Need-array-read-result
-array-read-result c = search needs
+-- an octet k places up
+abbrev up : ℕ → ℕ → ℕ
+up k x = x * 2 ^ k % 2 ^ 8
+
+abbrev quotientOf : ℕ → ℕ
+quotientOf code = bitXor (bitXor (bitXor code (code / 2 ^ 1)) (code / 2 ^ 3)) (code / 2 ^ 6)
+
+abbrev restOf : ℕ → ℕ
+restOf q = bitXor (bitXor (bitXor (bitXor (bitXor q (up 1 q)) (up 2 q)) (up 4 q)) (up 6 q)) (up 7 q)
+
+right : ℕ → Bool
+right code = eqb (restOf (quotientOf code)) (checkOf code)
+
+all-right : everyBelow 256 right ≡ true
+unfolding right checkOf number remainder continued lowBits fed xors scaled xor odd
+all-right = refl
 
 returns : tie.Need-returns
-unfolding checkOf number remainder continued lowBits fed xors scaled xor odd
-returns c =
-    let h : c .args .code < 256 = search needs in
-    entry 256 checkOf 0 (c .args .code) h
+unfolding right
+returns c = eqb-true _ _ (below 256 right all-right (c .args .code) (search needs))
 
 pub check-octet-spec : {M : Type 1} → statement M
-check-octet-spec = tie.close (tie.spec array-read-result returns)
+check-octet-spec = tie.close (tie.spec returns)
