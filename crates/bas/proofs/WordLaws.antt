@@ -120,26 +120,8 @@ pub length-line : (w : List Bool) → length (lineOrder w) ≡ 16
 unfolding lineOrder evenOrder oddOrder
 length-line w = refl
 
-length-odd : (p : List Bool) → length (oddOrder p) ≡ 8
-unfolding oddOrder
-length-odd p = refl
-
 -- so what `line_order` gives of what it gave is the word again
 pub line-back-number : (w : ℕ) → w < 65536 → number (lineOrder (lowBits 16 (number (lineOrder (lowBits 16 w))))) ≡ w
 line-back-number w h =
     ap (λ (l : List Bool). number (lineOrder l)) (lowBits-back 16 (lineOrder (lowBits 16 w)) (length-line (lowBits 16 w)))
     ∙ ap number (line-back w) ∙ number-fits 16 w h
-
--- the line's sixteen bits as a number, octet by octet
-pub line-number : (w : ℕ) → number (lineOrder (lowBits 16 w)) ≡ number (evenOrder (octetBits (w / 256))) * 256 + number (oddOrder (octetBits (w % 256)))
-unfolding lineOrder
-line-number w =
-    let hi = octetBits (w / 256) in
-    let lo = octetBits w in
-    let parts : lowBits 16 w ≡ hi ++ lo = lowBits-append 8 8 w in
-    let high : take 8 (lowBits 16 w) ≡ hi = ap (take 8) parts ∙ take-at hi lo 8 (length-lowBits 8 (w / 256)) in
-    let low : drop 8 (lowBits 16 w) ≡ octetBits (w % 256) =
-    ap (drop 8) parts ∙ drop-at hi lo 8 (length-lowBits 8 (w / 256)) ∙ sym (lowBits-mod 8 w) in
-    ap₂ (λ (x y : List Bool). number (evenOrder x ++ oddOrder y)) high low
-    ∙ number-append (evenOrder hi) (oddOrder (octetBits (w % 256)))
-    ∙ ap (λ (k : ℕ). number (evenOrder hi) * 2 ^ k + number (oddOrder (octetBits (w % 256)))) (length-odd (octetBits (w % 256)))

@@ -1,7 +1,7 @@
 // BAS words: the word of a code, the order of its bits on the line, and the reading of a word that came (document 01, 'BAS words').
 ghost use mathlib.Core.Path.{_≡_};
-ghost use Rattle.bits.specs.Bits.{lowBits, octetBits, number};
-ghost use Rattle.bas.specs.Words.{checkOf, wordOf, evenOrder, oddOrder, lineOrder};
+ghost use Rattle.bits.specs.Bits.{lowBits, number};
+ghost use Rattle.bas.specs.Words.{checkOf, wordOf, lineOrder};
 ghost use Rattle.bas.specs.Reading.{readingOf};
 ghost use Rattle.bas.specs.Flips.{flipsAt};
 
@@ -273,17 +273,13 @@ const FLIPS: [u16; 256] = [
 
 // The check bits of a code, p0 highest. X^16 divided by the generator is X^8 + X^7 + X^5 + X^2 + 1 and a rest; so the code times X^8, divided
 // by it, is the code added up with itself 1, 3 and 6 places lower. Below X^8 the code times X^8 has nothing, and hence what the quotient times
-// the generator has there is the remainder.
+// the generator has there is the remainder: times X + 1, X^2, X^4 and X^7 + X^6, which is X + 1 again, six places up.
 pub fn check_octet(code: u8) -> u8
     ensures { λ r. ⌜ r ≡ checkOf code ⌝ }
 {
     let quotient = code ^ (code >> 1) ^ (code >> 3) ^ (code >> 6);
-    quotient
-        ^ (quotient << 1)
-        ^ (quotient << 2)
-        ^ (quotient << 4)
-        ^ (quotient << 6)
-        ^ (quotient << 7)
+    let pair = quotient ^ (quotient << 1);
+    pair ^ (quotient << 2) ^ (quotient << 4) ^ (pair << 6)
 }
 
 // The word of a code: its eight bits, and then its check bits.
@@ -294,39 +290,14 @@ pub fn word_of(code: u8) -> u16
     (code as u16) * 256 + (check as u16)
 }
 
-// The bits of a code as an even frame carries them.
-fn even_order(b: u8) -> u8
-    ensures { λ r. ⌜ r ≡ number (evenOrder (octetBits b)) ⌝ }
-{
-    b / 128 % 2 * 128
-        + b / 16 % 2 * 64
-        + b / 32 % 2 * 32
-        + b / 64 % 2 * 16
-        + b / 4 % 2 * 8
-        + b / 8 % 2 * 4
-        + b % 4
-}
-
-// Check bits as an odd frame carries them.
-fn odd_order(p: u8) -> u8
-    ensures { λ r. ⌜ r ≡ number (oddOrder (octetBits p)) ⌝ }
-{
-    p / 32 % 2 * 128
-        + p / 64 % 2 * 64
-        + p / 128 % 2 * 32
-        + p / 8 % 2 * 16
-        + p / 16 % 2 * 8
-        + p / 4 % 2 * 4
-        + p % 4
-}
-
-// A word's sixteen bits as a block carries them, even frame first; and back, for the order is its own inverse.
+// A word's sixteen bits as a block carries them, even frame first; and back, for the order is its own inverse. b1 and b3, two places apart,
+// change places, and p0 and p2; so do the neighbours b4 and b5, and p3 and p4. Where two bits differ, both are turned.
 pub fn line_order(word: u16) -> u16
     ensures { λ r. ⌜ r ≡ number (lineOrder (lowBits 16 word)) ⌝ }
 {
-    let even = even_order((word / 256) as u8);
-    let odd = odd_order((word % 256) as u8);
-    (even as u16) * 256 + (odd as u16)
+    let apart = (word ^ (word >> 2)) & 0b0001_0000_0010_0000;
+    let beside = (word ^ (word >> 1)) & 0b0000_0100_0000_1000;
+    word ^ apart ^ (apart << 2) ^ beside ^ (beside << 1)
 }
 
 // The bits to flip at a remainder.

@@ -20,8 +20,11 @@ up k x = x * 2 ^ k % 2 ^ 8
 abbrev quotientOf : ℕ → ℕ
 quotientOf code = bitXor (bitXor (bitXor code (code / 2 ^ 1)) (code / 2 ^ 3)) (code / 2 ^ 6)
 
+abbrev pairOf : ℕ → ℕ
+pairOf q = bitXor q (up 1 q)
+
 abbrev restOf : ℕ → ℕ
-restOf q = bitXor (bitXor (bitXor (bitXor (bitXor q (up 1 q)) (up 2 q)) (up 4 q)) (up 6 q)) (up 7 q)
+restOf q = bitXor (bitXor (bitXor (pairOf q) (up 2 q)) (up 4 q)) (up 6 (pairOf q))
 
 right : ℕ → Bool
 right code = eqb (restOf (quotientOf code)) (checkOf code)
