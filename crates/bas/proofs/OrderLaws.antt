@@ -4,10 +4,10 @@ use mathlib.Core.Bool.{Bool, true, false, xor, _&&_}
 use mathlib.Core.List.{List, _++_}
 use Prim.Native.Nat.{ℕ, _+_, _*_, _/_, _%_, _^_, _<_}
 use native.Mathlib.Omega.{arith}
-use lib.Bits.{bitXor, bitAnd, and-comm, and-le-r, and-shr, xor-shr, xor-lt}
+use lib.Bits.{bitXor, bitAnd, and-comm, and-le-r, xor-lt}
 use lib.Pow.{shr-shr}
 use Rattle.bits.specs.Bits.{odd, lowBits, number, zeros, xors}
-use Rattle.bits.proofs.BitLaws.{xor-false, odd-xor, odd-and, lowBits-mod, lowBits-shifted, lowBits-xor, number-fits}
+use Rattle.bits.proofs.BitLaws.{xor-false, bit-xor, bit-and, lowBits-mod, lowBits-shifted, lowBits-xor, number-fits}
 use Rattle.bas.specs.Words.{evenOrder, oddOrder, lineOrder}
 
 -- where the bits that a mask covers differ from those k places higher
@@ -17,12 +17,10 @@ differing k mask w = bitAnd (bitXor w (w / 2 ^ k)) mask
 odd-differing : (k mask w j : ℕ) → odd (differing k mask w / 2 ^ j) ≡ (odd (mask / 2 ^ j) && xor (odd (w / 2 ^ j)) (odd (w / 2 ^ (k + j))))
 odd-differing k mask w j =
     let x = bitXor w (w / 2 ^ k) in
-    let other : odd (x / 2 ^ j) ≡ xor (odd (w / 2 ^ j)) (odd (w / 2 ^ (k + j))) =
-    ap odd (xor-shr w (w / 2 ^ k) j) ∙ odd-xor (w / 2 ^ j) (w / 2 ^ k / 2 ^ j) ∙ ap (λ (y : ℕ). xor (odd (w / 2 ^ j)) (odd y)) (shr-shr w k j) in
     ap (λ (y : ℕ). odd (y / 2 ^ j)) (and-comm x mask)
-    ∙ ap odd (and-shr mask x j)
-    ∙ odd-and (mask / 2 ^ j) (x / 2 ^ j)
-    ∙ ap (λ (b : Bool). odd (mask / 2 ^ j) && b) other
+    ∙ bit-and mask x j
+    ∙ ap (λ (b : Bool). odd (mask / 2 ^ j) && b)
+    (bit-xor w (w / 2 ^ k) j ∙ ap (λ (y : ℕ). xor (odd (w / 2 ^ j)) (odd y)) (shr-shr w k j))
 
 -- a bit that is turned where it differs from another is the other
 turned : (a b : Bool) → xor a (xor a b) ≡ b

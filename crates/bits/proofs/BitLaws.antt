@@ -10,7 +10,7 @@ use lib.Dec.{eqb}
 use lib.ListN.{length, getD, take, drop, length-append}
 use lib.Seq.{take-at, drop-at}
 use lib.Pow.{pow-pos, pow-add, mod-pow-add, high, split, shr-shr, shl-shr}
-use lib.Bits.{bitXor, bitOr, bitAnd, xor-step, or-step, and-step, xor-shr, differ}
+use lib.Bits.{bitXor, bitOr, bitAnd, xor-step, or-step, and-step, xor-shr, or-shr, and-shr, differ}
 use Rattle.bits.specs.Bits.{odd, lowBits, octetBits, bitsOf, digit, number, zeros, xors}
 
 -- ---- the sum of two bits
@@ -245,10 +245,20 @@ odd-or = odd-of bitOr max _||_ or-step max-odd
 pub odd-and : (a b : ℕ) → odd (bitAnd a b) ≡ (odd a && odd b)
 odd-and = odd-of bitAnd min _&&_ and-step min-odd
 
+-- and so has each of their bits
+pub bit-xor : (a b k : ℕ) → odd (bitXor a b / 2 ^ k) ≡ xor (odd (a / 2 ^ k)) (odd (b / 2 ^ k))
+bit-xor a b k = ap odd (xor-shr a b k) ∙ odd-xor (a / 2 ^ k) (b / 2 ^ k)
+
+pub bit-or : (a b k : ℕ) → odd (bitOr a b / 2 ^ k) ≡ (odd (a / 2 ^ k) || odd (b / 2 ^ k))
+bit-or a b k = ap odd (or-shr a b k) ∙ odd-or (a / 2 ^ k) (b / 2 ^ k)
+
+pub bit-and : (a b k : ℕ) → odd (bitAnd a b / 2 ^ k) ≡ (odd (a / 2 ^ k) && odd (b / 2 ^ k))
+bit-and a b k = ap odd (and-shr a b k) ∙ odd-and (a / 2 ^ k) (b / 2 ^ k)
+
 pub lowBits-xor : (k a b : ℕ) → lowBits k (bitXor a b) ≡ xors (lowBits k a) (lowBits k b)
 unfolding lowBits xors
 lowBits-xor zero a b = refl
-lowBits-xor (suc k) a b = ap₂ _∷_ (ap odd (xor-shr a b k) ∙ odd-xor (a / 2 ^ k) (b / 2 ^ k)) (lowBits-xor k a b)
+lowBits-xor (suc k) a b = ap₂ _∷_ (bit-xor a b k) (lowBits-xor k a b)
 
 -- ---- more of numbers and bits
 pub lowBits-back : (k : ℕ) (bs : List Bool) → length bs ≡ k → lowBits k (number bs) ≡ bs

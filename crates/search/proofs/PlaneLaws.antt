@@ -1,6 +1,6 @@
 -- Laws of the eight bits of octets, each by itself: how the machine's operations join them, and that bit 0 is SC.
 use mathlib.Core.Path.{_≡_, refl, sym, ap, ap₂, _∙_}
-use mathlib.Core.Bool.{Bool, true, xor, _&&_, _||_}
+use mathlib.Core.Bool.{Bool, true, xor}
 use mathlib.Core.List.{List, [], _∷_}
 use Prim.Native.Nat.{ℕ, zero, suc, _+_, _-_, _*_, _/_, _%_, _^_, _<_}
 use native.Mathlib.Nat.{zero-div, div-one, add-comm}
@@ -9,17 +9,11 @@ use native.Mathlib.Omega.{arith}
 use lib.ListN.{length, getD, length-map, List·getD-map}
 use lib.Dec.{eqb}
 use lib.Pow.{field, high, shr-shr, mod-mod-pow}
-use lib.Bits.{bitXor, bitOr, bitAnd, xor-shr, or-shr, and-shr}
+use lib.Bits.{bitXor}
 use Rattle.bits.specs.Bits.{odd}
-use Rattle.bits.proofs.BitLaws.{odd-xor, odd-or, odd-and, odd-above, odd-digit, digit-odd}
+use Rattle.bits.proofs.BitLaws.{bit-xor, odd-above, odd-digit, digit-odd}
 use Rattle.bits.proofs.Every.{below}
 use Rattle.search.specs.Groups.{EachBit, plane}
-
-pub bit-or : (a b k : ℕ) → odd (bitOr a b / 2 ^ k) ≡ (odd (a / 2 ^ k) || odd (b / 2 ^ k))
-bit-or a b k = ap odd (or-shr a b k) ∙ odd-or (a / 2 ^ k) (b / 2 ^ k)
-
-pub bit-and : (a b k : ℕ) → odd (bitAnd a b / 2 ^ k) ≡ (odd (a / 2 ^ k) && odd (b / 2 ^ k))
-bit-and a b k = ap odd (and-shr a b k) ∙ odd-and (a / 2 ^ k) (b / 2 ^ k)
 
 -- 255 is an octet of ones
 pub all-ones : EachBit 255 (λ k. true)
@@ -27,7 +21,7 @@ unfolding odd
 all-ones = below 8 (λ k. odd (255 / 2 ^ k)) refl
 
 pub bit-turned : (a k : ℕ) → k < 8 → odd (bitXor a 255 / 2 ^ k) ≡ xor (odd (a / 2 ^ k)) true
-bit-turned a k h = ap odd (xor-shr a 255 k) ∙ odd-xor (a / 2 ^ k) (255 / 2 ^ k) ∙ ap (xor (odd (a / 2 ^ k))) (all-ones k h)
+bit-turned a k h = bit-xor a 255 k ∙ ap (xor (odd (a / 2 ^ k))) (all-ones k h)
 
 pub length-plane : (k : ℕ) (part : List ℕ) → length (plane k part) ≡ length part
 unfolding plane

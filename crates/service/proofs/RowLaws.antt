@@ -5,12 +5,12 @@ use mathlib.Core.List.{List, [], _∷_}
 use Prim.Native.Nat.{ℕ, zero, suc, _+_, _*_, _/_, _%_, _^_}
 use native.Mathlib.Nat.{add-zero}
 use native.Mathlib.Omega.{arith}
-use lib.Bits.{bitAnd, bitOr, and-comm, and-shr, or-shr}
+use lib.Bits.{bitAnd, bitOr, and-comm}
 use lib.Dec.{eqb}
 use lib.ListN.{getD}
 use lib.Pow.{shr-shr, high}
 use Rattle.bits.specs.Bits.{odd, lowBits, number, numberAt, eightAt}
-use Rattle.bits.proofs.BitLaws.{odd-or, odd-and, number-lowBits}
+use Rattle.bits.proofs.BitLaws.{bit-or, bit-and, number-lowBits}
 use Rattle.bits.proofs.EightLaws.{numberAt-lt, number-parts}
 use Rattle.service.specs.Channel.{channelBits}
 
@@ -46,8 +46,7 @@ either k f j = f j || f (k + j)
 
 odd-over : (k x : ℕ) (f : ℕ → Bool) → ((j : ℕ) → odd (x / 2 ^ j) ≡ f j) → (j : ℕ) → odd (over k x / 2 ^ j) ≡ either k f j
 odd-over k x f h j =
-    ap odd (or-shr x (x / 2 ^ k) j)
-    ∙ odd-or (x / 2 ^ j) (x / 2 ^ k / 2 ^ j)
+    bit-or x (x / 2 ^ k) j
     ∙ ap₂ _||_ (h j) (ap odd (shr-shr x k j) ∙ h (k + j))
 
 -- ---- the lowest bit of each of eight octets
@@ -56,7 +55,7 @@ each = 72340172838076673
 
 odd-each : (x j : ℕ) → odd (bitAnd x each / 2 ^ j) ≡ (odd (each / 2 ^ j) && odd (x / 2 ^ j))
 odd-each x j =
-    ap (λ (y : ℕ). odd (y / 2 ^ j)) (and-comm x each) ∙ ap odd (and-shr each x j) ∙ odd-and (each / 2 ^ j) (x / 2 ^ j)
+    ap (λ (y : ℕ). odd (y / 2 ^ j)) (and-comm x each) ∙ bit-and each x j
 
 -- of the eight that fall on a bit of the lowest octet, one is the lowest bit of its octet
 abbrev pub gathered : ℕ → ℕ

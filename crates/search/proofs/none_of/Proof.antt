@@ -3,8 +3,9 @@ use mathlib.Core.Path.{_≡_, ap, ap₂, _∙_}
 use mathlib.Core.Bool.{_&&_}
 use Prim.Native.Nat.{ℕ, _-_, _≤_}
 use native.Mathlib.Omega.{arith}
+use Rattle.bits.proofs.BitLaws.{bit-and}
 use Rattle.search.specs.Groups.{EachBit, plane, noneOf}
-use Rattle.search.proofs.PlaneLaws.{bit-and, all-ones}
+use Rattle.search.proofs.PlaneLaws.{all-ones}
 use Rattle.search.proofs.GroupLaws.{none-turn}
 use Rattle.search.proofs.none_of.Statement.{statement}
 use Rattle.search.proofs.none_of.Tie as tie

@@ -6,8 +6,9 @@ use native.Mathlib.Omega.{arith}
 use lib.Bits.{bitXor}
 use borrow.Author.Needs.{needs}
 use Rattle.bits.specs.Bits.{odd}
+use Rattle.bits.proofs.BitLaws.{bit-or}
 use Rattle.search.specs.Groups.{plane}
-use Rattle.search.proofs.PlaneLaws.{bit-or, bit-turned, length-plane, plane-at}
+use Rattle.search.proofs.PlaneLaws.{bit-turned, length-plane, plane-at}
 use Rattle.search.proofs.WrongLaws.{not-aligned}
 use Rattle.search.proofs.wrong_at.Statement.{statement}
 use Rattle.search.proofs.wrong_at.Tie as tie

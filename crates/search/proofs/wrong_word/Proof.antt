@@ -5,8 +5,9 @@ use Prim.Native.Nat.{ℕ, _/_, _^_}
 use lib.Bits.{bitXor}
 use borrow.Author.Needs.{needs}
 use Rattle.bits.specs.Bits.{odd}
+use Rattle.bits.proofs.BitLaws.{bit-or, bit-and}
 use Rattle.search.specs.Groups.{plane}
-use Rattle.search.proofs.PlaneLaws.{bit-or, bit-and, bit-turned, plane-at}
+use Rattle.search.proofs.PlaneLaws.{bit-turned, plane-at}
 use Rattle.search.proofs.WrongLaws.{not-spelled}
 use Rattle.search.proofs.wrong_word.Statement.{statement}
 use Rattle.search.proofs.wrong_word.Tie as tie
