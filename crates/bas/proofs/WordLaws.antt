@@ -3,16 +3,15 @@ use mathlib.Core.Path.{_≡_, refl, sym, ap, ap₂, _∙_, subst}
 use mathlib.Core.Bool.{Bool, true, false, xor, _||_}
 use mathlib.Core.List.{List, [], _∷_, _++_}
 use mathlib.Core.Logic.{_≢_}
-use Prim.Native.Nat.{ℕ, _+_, _*_, _/_, _%_, _^_, _≤_, _<_}
+use Prim.Native.Nat.{ℕ, _+_, _*_, _^_, _≤_, _<_}
 use native.Mathlib.Omega.{arith}
 use lib.Dec.{leb, eqb, lit<}
 use borrow.Author.Tests.{leb-true, eqb-true}
-use lib.ListN.{length, take, drop, length-append}
-use lib.Seq.{take-at, drop-at}
+use lib.ListN.{length, length-append}
 use lib.Bits.{bitXor, xor-lt}
 use Rattle.bits.specs.Bits.{odd, lowBits, octetBits, digit, number, zeros, xors}
 use Rattle.bits.specs.Remainder.{scaled, fed, continued, remainder, Leaves}
-use Rattle.bits.proofs.BitLaws.{xors-comm, xors-assoc, xors-zeros, xors-cancel, xors-append, length-lowBits, lowBits-xor, lowBits-zero, lowBits-back, lowBits-append, lowBits-mod, number-fits, number-bound, number-append}
+use Rattle.bits.proofs.BitLaws.{xors-comm, xors-assoc, xors-zeros, xors-cancel, xors-append, length-lowBits, lowBits-xor, lowBits-zero, lowBits-back, number-fits, number-bound, number-append}
 use Rattle.bits.proofs.RemainderLaws.{length-remainder, remainder-xor, is-remainder, only-remainder}
 use Rattle.bits.proofs.Every.{or-right, everyBelow, below}
 use Rattle.bas.specs.Words.{basGenerator, checkOf, wordBits, wordOf, evenOrder, oddOrder, lineOrder}

@@ -1,5 +1,5 @@
 -- `service::row_at` meets its contract: where all eight are there, by the law of the bits that are gathered.
-use mathlib.Core.Path.{sym, _∙_}
+use mathlib.Core.Path.{_∙_}
 use Prim.Native.Nat.{_+_}
 use native.Mathlib.Omega.{arith}
 use lib.ListN.{length}
