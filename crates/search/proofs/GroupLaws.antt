@@ -3,7 +3,7 @@ use mathlib.Core.Path.{_≡_, refl, sym, ap, ap₂, subst, _∙_}
 use mathlib.Core.Bool.{Bool, true, false, not, _&&_, and-true, and-comm, and-assoc}
 use mathlib.Core.Logic.{⊎-elim}
 use mathlib.Core.List.{List, [], _∷_}
-use Prim.Native.Nat.{ℕ, zero, suc, _+_, _*_, _/_, _^_, _≤_, _<_}
+use Prim.Native.Nat.{ℕ, zero, suc, _+_, _-_, _*_, _/_, _^_, _≤_, _<_}
 use native.Mathlib.Nat.{add-zero, eq-or-lt-of-le}
 use native.Mathlib.Numerals.{add-one}
 use native.Mathlib.Omega.{arith}
@@ -48,6 +48,19 @@ none-append n (suc m) part =
     sym (and-assoc (noneOf n part) (noneOf m (drop n part)) last)
     ∙ ap (λ (b : Bool). b && last) (none-append n m part)
     ∙ turn ∙ ap (λ (k : ℕ). noneOf k part) e
+
+-- some of them may have been passed over before
+pub passed-to-the-end : (n first at : ℕ) (recording : List ℕ) → first + n ≤ length recording → first ≤ at → at ≤ first + n
+    → noneOf n (drop first recording) ≡ true → firstFrom (first + n) recording ≡ firstFrom at recording
+passed-to-the-end n first at recording h w v e =
+    let before = at - first in
+    let left = first + n - at in
+    let here : first + before ≡ at = omega arith in
+    let parted : (noneOf before (drop first recording) && noneOf left (drop before (drop first recording))) ≡ true =
+    none-append before left (drop first recording) ∙ ap (λ (k : ℕ). noneOf k (drop first recording)) (omega arith) ∙ e in
+    let rest : noneOf left (drop at recording) ≡ true =
+    rw (drop-drop, here) at (and-right (noneOf before (drop first recording)) (noneOf left (drop before (drop first recording))) parted) in
+    ap (λ (k : ℕ). firstFrom k recording) (omega arith) ∙ passed-over left at recording (omega arith) rest
 
 -- where SC is the same, the same places have alignment
 none-same : (n : ℕ) (xs ys : List ℕ) → n + 167 ≤ length xs → n + 167 ≤ length ys
@@ -97,7 +110,7 @@ is-full r h =
     let bit : ℕ → Bool = λ k. odd (r / 2 ^ k) in
     ap (λ (n : ℕ). eqb n 255) (sym (number-fits 8 r h)) ∙ ones (bit 7) (bit 6) (bit 5) (bit 4) (bit 3) (bit 2) (bit 1) (bit 0)
 
-folded-none : (k : ℕ) (bits part : List ℕ) → k < 8 → length bits ≡ 424 → 2216 ≤ length part → Folded bits part
+folded-none : (k : ℕ) (bits part : List ℕ) → k < 8 → length bits ≡ 424 → 2216 ≤ length part → Folded 424 bits part
     → noneOf 256 (plane k bits) ≡ noneOf 256 (drop (256 * k) part)
 folded-none k bits part h l w folded =
     none-same 256 (plane k bits) (drop (256 * k) part)
@@ -105,8 +118,19 @@ folded-none k bits part h l w folded =
     (omega (arith, length-drop (256 * k) part))
     (λ j v. ap odd (plane-at k bits j) ∙ folded j (omega arith) k h ∙ ap odd (sym (getD-drop (256 * k) part j 0)))
 
+-- the octets that follow a part begin the next one; what follows the last part has the bit above
+pub one-part-further : (bits r octet i : ℕ) (part : List ℕ) → octet ≡ getD part (i + 2048) 0
+    → EachBit bits (λ k. odd (getD part (256 * k + i) 0)) → odd (r / 2 ^ 7) ≡ odd octet
+    → ((k : ℕ) → k < 7 → odd (r / 2 ^ k) ≡ odd (bits / 2 ^ (k + 1))) → EachBit r (λ k. odd (getD part (256 * k + (i + 256)) 0))
+one-part-further bits r octet i part o first highest below k h =
+    let sc : ℕ → Bool = λ j. odd (getD part j 0) in
+    ⊎-elim
+    (λ (e : k ≡ 7). ap (λ (j : ℕ). odd (r / 2 ^ j)) e ∙ highest ∙ ap odd o ∙ ap sc (omega arith))
+    (λ (w : k < 7). below k w ∙ first (k + 1) (omega arith) ∙ ap sc (omega arith))
+    (eq-or-lt-of-le (omega arith))
+
 -- so eight ones say that alignment stands at none of 2,048 places
-pub none-folded : (r : ℕ) (bits part : List ℕ) → r < 256 → length bits ≡ 424 → 2216 ≤ length part → Folded bits part
+pub none-folded : (r : ℕ) (bits part : List ℕ) → r < 256 → length bits ≡ 424 → 2216 ≤ length part → Folded 424 bits part
     → EachBit r (λ k. noneOf 256 (plane k bits)) → eqb r 255 ≡ noneOf 2048 part
 none-folded r bits part h l w folded each =
     is-full r h

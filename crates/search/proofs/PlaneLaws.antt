@@ -42,8 +42,11 @@ pub low-bit : (r : ℕ) (says : List ℕ → Bool) (part : List ℕ) → EachBit
 low-bit r says part each = ap odd (sym (div-one r)) ∙ each 0 (omega arith) ∙ ap says (plane-0 part)
 
 -- ---- bits that go up by one, with the lowest bit of another octet below them
+lowest : (octet : ℕ) → odd (octet % 2) ≡ odd octet
+lowest octet = ap odd (sym (digit-odd octet)) ∙ odd-digit (odd octet)
+
 pub bit-below : (bits octet : ℕ) → odd (bits % 128 * 2 + octet % 2) ≡ odd octet
-bit-below bits octet = odd-above (bits % 128) (octet % 2) ∙ ap odd (sym (digit-odd octet)) ∙ odd-digit (odd octet)
+bit-below bits octet = odd-above (bits % 128) (octet % 2) ∙ lowest octet
 
 low-kept : (bits k : ℕ) → k < 7 → odd (bits % 128 / 2 ^ k) ≡ odd (bits / 2 ^ k)
 unfolding odd
@@ -67,3 +70,16 @@ pub one-below : (n bits r : ℕ) (says : ℕ → Bool) → n < 8 → odd r ≡ s
 one-below n bits r says h lowest above before zero w = ap odd (div-one r) ∙ lowest
 one-below n bits r says h lowest above before (suc k) w =
     ap (λ (j : ℕ). odd (r / 2 ^ j)) (sym (add-one k)) ∙ above k (omega arith) ∙ before k (omega arith) ∙ ap says (add-one k)
+
+-- ---- bits that go down by one, with the lowest bit of another octet above them
+pub bit-above : (bits octet : ℕ) → bits < 256 → odd ((bits / 2 + octet % 2 * 128) / 2 ^ 7) ≡ odd octet
+bit-above bits octet h =
+    let up : (bits / 2 + octet % 2 * 128) / 128 ≡ octet % 2 = omega arith in
+    ap odd up ∙ lowest octet
+
+pub bits-below : (bits octet k : ℕ) → bits < 256 → k < 7 → odd ((bits / 2 + octet % 2 * 128) / 2 ^ k) ≡ odd (bits / 2 ^ (k + 1))
+bits-below bits octet k h w =
+    let n = bits / 2 + octet % 2 * 128 in
+    let down : n % 128 ≡ bits / 2 = omega arith in
+    sym (low-kept n k w) ∙ ap (λ (m : ℕ). odd (m / 2 ^ k)) down
+    ∙ ap odd (shr-shr bits 1 k) ∙ ap (λ (j : ℕ). odd (bits / 2 ^ j)) (add-comm 1 k)

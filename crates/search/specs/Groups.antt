@@ -25,6 +25,6 @@ EachBit r says = (k : ℕ) → k < 8 → odd (r / 2 ^ k) ≡ says k
 unfoldable pub plane : ℕ → List ℕ → List ℕ
 plane k part = map (λ (x : ℕ). x / 2 ^ k) part
 
--- bit k has the SC of what stands 256 k octets further on
-abbrev pub Folded : List ℕ → List ℕ → Type 0
-Folded bits part = (i : ℕ) → i < 424 → EachBit (getD bits i 0) (λ k. odd (getD part (256 * k + i) 0))
+-- in the first n octets bit k has the SC of what stands 256 k octets further on
+abbrev pub Folded : ℕ → List ℕ → List ℕ → Type 0
+Folded n bits part = (i : ℕ) → i < n → EachBit (getD bits i 0) (λ k. odd (getD part (256 * k + i) 0))

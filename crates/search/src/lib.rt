@@ -93,14 +93,34 @@ fn folded_at(part: &[u8], at: usize) -> u8
     bits
 }
 
-// Eight parts of 256 places laid over one another, the SC of each in a bit of its own, with the 168 octets that follow.
-fn folded(part: &[u8]) -> [u8; 424]
-    requires { ⌜ 2216 ≤ length (now part) ⌝ }
-    ensures { λ r. ⌜ Folded r (now (part .entry)) ⌝ }
+// The bits of an octet go down by one, and above them comes the SC bit of another octet.
+fn one_part_on(bits: u8, octet: u8) -> u8
+    ensures { λ r. ⌜ (odd (r / 2 ^ 7) ≡ odd octet) × ((k : ℕ) → k < 7 → odd (r / 2 ^ k) ≡ odd (bits / 2 ^ (k + 1))) ⌝ }
+{
+    bits / 2 + octet % 2 * 128
+}
+
+// Eight parts of 256 places laid over one another, the SC of each in a bit of its own. There is room for the 168 octets that follow.
+fn laid_over(part: &[u8]) -> [u8; 424]
+    requires { ⌜ 2048 ≤ length (now part) ⌝ }
+    ensures { λ r. ⌜ Folded 256 r (now (part .entry)) ⌝ }
 {
     let mut bits: [u8; 424] = [0; 424];
-    for i in 0..424 {
+    for i in 0..256 {
         bits[i] = folded_at(part, i);
+    }
+    bits
+}
+
+// The same with the 168 octets that follow each part. These begin the next part and are laid over already, one bit higher; only what follows
+// the last part is new.
+fn folded(part: &[u8]) -> [u8; 424]
+    requires { ⌜ 2216 ≤ length (now part) ⌝ }
+    ensures { λ r. ⌜ Folded 424 r (now (part .entry)) ⌝ }
+{
+    let mut bits = laid_over(part);
+    for i in 0..168 {
+        bits[i + 256] = one_part_on(bits[i], part[i + 2048]);
     }
     bits
 }
@@ -146,6 +166,28 @@ fn after_groups(recording: &[u8], start: usize, places: usize, groups: usize) ->
     at
 }
 
+// Where the search goes on after the last 2,048 places, if it has come to one of them and alignment stands at none. Those before the start
+// are tested once more: that takes less time than small groups for the others.
+fn after_last_group(recording: &[u8], start: usize) -> usize
+    ensures { λ r. ⌜ firstFrom r (now (recording .entry)) ≡ firstFrom start (now (recording .entry)) ⌝ }
+{
+    let all = recording.len();
+    if all < 2216 {
+        return start;
+    }
+    let last = all - 2216;
+    if start < last {
+        return start;
+    }
+    if last + 2048 < start {
+        return start;
+    }
+    if !none_of_group(&recording[last..], 2048) {
+        return start;
+    }
+    last + 2048
+}
+
 // Where the test of one place after the other has to begin. Small groups come first, since the next place is often near; then large
 // ones, over 65,536 octets if need be, and small ones in the large one that has alignment, or in what is left.
 fn after_all_groups(recording: &[u8], start: usize) -> usize
@@ -156,7 +198,8 @@ fn after_all_groups(recording: &[u8], start: usize) -> usize
         return near;
     }
     let far = after_groups(recording, near, 2048, 32);
-    after_groups(recording, far, 64, 64)
+    let end = after_last_group(recording, far);
+    after_groups(recording, end, 64, 64)
 }
 
 // The smallest place from a given one on where alignment stands, by the test of one place after the other, as far as 168 octets are left.

@@ -16,14 +16,17 @@ returns c = search needs
 after-groups-requires-2 : tie.Need-after-groups-requires-2
 after-groups-requires-2 c κs = search needs
 
+after-last-group-requires : tie.Need-after-last-group-requires
+after-last-group-requires c κs = search needs
+
 after-groups-requires-3 : tie.Need-after-groups-requires-3
 after-groups-requires-3 c κs = search needs
 
 returns-2 : tie.Need-returns-2
 returns-2 c =
-    let far = c .before .after-groups2 in
-    let near = c .before .before .before .before .after-groups in
-    c .after-groups3 .ensures ∙ far .ensures ∙ near .ensures
+    let far = c .before .before .after-groups2 in
+    let near = c .before .before .before .before .before .after-groups in
+    c .after-groups3 .ensures ∙ c .before .after-last-group .ensures ∙ far .ensures ∙ near .ensures
 
 pub after-all-groups-spec : {M : Type 1} → statement M
 after-all-groups-spec =
@@ -33,5 +36,6 @@ after-all-groups-spec =
     octets-from-requires
     returns
     after-groups-requires-2
+    after-last-group-requires
     after-groups-requires-3
     returns-2)

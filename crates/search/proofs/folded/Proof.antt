@@ -1,26 +1,41 @@
--- `search::folded` meets its contract. The loop's invariant: the entries so far are as they shall be.
+-- `search::folded` meets its contract. The loop's invariant: the first part's entries, and those that follow so far, are as they shall be.
 use mathlib.Core.Path.{_≡_, refl}
 use Prim.Native.Nat.{ℕ, _+_, _-_, _*_, _≤_, _<_}
 use native.Mathlib.Omega.{arith}
 use lib.ListN.{length, getD, length-set}
+use borrow.Author.Needs.{needs}
 use Rattle.bits.specs.Bits.{odd}
-use Rattle.search.specs.Groups.{EachBit}
-use Rattle.search.proofs.GroupLaws.{one-more-entry}
+use Rattle.search.specs.Groups.{EachBit, Folded}
+use Rattle.search.proofs.GroupLaws.{one-part-further, one-more-entry}
 use Rattle.search.proofs.folded.Statement.{statement}
 use Rattle.search.proofs.folded.Tie as tie
 
 abbrev Inv-loop : tie.InvT-loop
-Inv-loop part bits₀ i₀ bits i =
-    (i ≤ 424) × (length bits ≡ 424) × ((j : ℕ) → j < i → EachBit (getD bits j 0) (λ k. odd (getD part (256 * k + j) 0)))
+Inv-loop part bits₀ i₀ bits i = (i ≤ 168) × (length bits ≡ 424) × Folded (i + 256) bits part
 
 abbrev μ-loop : tie.MeasureT-loop
-μ-loop part bits₀ i₀ bits i = 424 - i
+μ-loop part bits₀ i₀ bits i = 168 - i
+
+laid-over-requires : tie.Need-laid-over-requires Inv-loop μ-loop
+laid-over-requires c κs = search needs
 
 loop-holds : tie.Need-loop-holds Inv-loop μ-loop
-loop-holds c = (omega arith, refl, λ j h. absurd (omega arith))
+loop-holds c = (omega arith, search needs, c .laid-over .ensures)
 
-folded-at-requires : tie.Need-folded-at-requires Inv-loop μ-loop
-folded-at-requires c κs = omega arith
+array-read-one-part-on : tie.Need-array-read-one-part-on Inv-loop μ-loop
+array-read-one-part-on c = omega arith
+
+add-one-part-on : tie.Need-add-one-part-on Inv-loop μ-loop
+add-one-part-on c = omega arith
+
+shared-slice-read-one-part-on : tie.Need-shared-slice-read-one-part-on Inv-loop μ-loop
+shared-slice-read-one-part-on c = omega arith
+
+one-part-on-requires : tie.Need-one-part-on-requires Inv-loop μ-loop
+one-part-on-requires c κs = search needs
+
+add-bits : tie.Need-add-bits Inv-loop μ-loop
+add-bits c = omega arith
 
 array-write-bits : tie.Need-array-write-bits Inv-loop μ-loop
 array-write-bits c = omega arith
@@ -33,13 +48,15 @@ loop-less c = omega arith
 
 loop-again : tie.Need-loop-again Inv-loop μ-loop
 loop-again c =
-    let part = c .before .before .before .before .args .part .now in
-    let l = c .before .before .loop in
-    let P : ℕ → ℕ → Type 0 = λ j x. EachBit x (λ k. odd (getD part (256 * k + j) 0)) in (
-      omega arith,
-      simp length-set (l .inv .1),
-      one-more-entry P (l .bits) (l .i) (c .folded-at .result) (omega arith) (l .inv .2) (c .folded-at .ensures),
-    )
+    let l = c .before .before .before .loop in
+    let part = c .before .before .before .before .before .before .args .part .now in
+    let P : ℕ → ℕ → Type 0 = λ j x. EachBit x (λ k. odd (getD part (256 * k + j) 0)) in
+    let o = c .one-part-on in
+    let here : P (l .i + 256) (o .result) =
+    one-part-further (getD (l .bits) (l .i) 0) (o .result) (getD part (l .i + 2048) 0) (l .i) part refl
+    (l .inv .2 (l .i) (omega arith)) (o .ensures .0) (o .ensures .1) in
+    let all = one-more-entry P (l .bits) (l .i + 256) (o .result) (omega arith) (l .inv .2) here in
+    (omega arith, simp length-set (l .inv .1), λ j h. all j (omega arith))
 
 returns : tie.Need-returns Inv-loop μ-loop
 returns c = λ j h.
@@ -52,8 +69,13 @@ folded-spec =
     (tie.spec
     Inv-loop
     μ-loop
+    laid-over-requires
     loop-holds
-    folded-at-requires
+    array-read-one-part-on
+    add-one-part-on
+    shared-slice-read-one-part-on
+    one-part-on-requires
+    add-bits
     array-write-bits
     add-i
     loop-less
