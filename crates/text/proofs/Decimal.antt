@@ -1,14 +1,15 @@
 -- What `decimalOf` says: read back it is the number, none but 0 begins with a zero, and a small number has few digits.
-use borrow.Author.Tests.{lt-ltb, lt-leb, leb-true, leb-false}
+use borrow.Author.Tests.{lt-ltb, leb-true, leb-false}
 use mathlib.Core.Path.{_≡_, refl, sym, ap, _∙_}
 use mathlib.Core.Bool.{Bool, true, false, cond}
 use mathlib.Core.List.{List, [], _∷_, _++_}
 use Prim.Native.Nat.{ℕ, zero, suc, _+_, _-_, _*_, _/_, _%_, _^_, _≤_, _<_}
-use native.Mathlib.Nat.{zero-add, suc-add, pow-le-pow-right, div-eq-of-lt, div-lt-iff-lt-mul, div-div-eq-div-mul, le-div-iff-mul-le, one-le-pow, one-mul, pow-suc, mul-comm}
+use native.Mathlib.Nat.{div-eq-of-lt, div-lt-iff-lt-mul, div-div-eq-div-mul, le-div-iff-mul-le, one-le-pow, one-mul, pow-suc, mul-comm}
 use native.Mathlib.Omega.{arith}
 use lib.Dec.{leb, lit<}
 use lib.ListN.{length, getD, length-append}
 use Rattle.text.specs.Digits.{digitOf, digitAt, digitsFrom, decimalOf}
+use Rattle.text.proofs.DigitLaws.{digits-from}
 
 shown : (d : ℕ) → d < 10 → digitOf d ≡ 48 + d
 unfolding digitOf
@@ -73,17 +74,8 @@ unfolding digitsFrom
 digits-few zero n = omega arith
 digits-few (suc k) n = rw length-append (omega (arith, digit-few (10 ^ suc k) n, digits-few k n))
 
--- the powers above a number show nothing
-none-above : (power n : ℕ) → n < power → digitAt power n ≡ []
-unfolding digitAt
-none-above power n h = rw (lt-leb power n h)
-
 digits-short : (m j n : ℕ) → n < 10 ^ suc j → length (digitsFrom (m + j) n) ≤ suc j
-unfolding digitsFrom
-digits-short zero j n h = rw (zero-add j) (digits-few j n)
-digits-short (suc m) j n h =
-    let below : 10 ^ suc j ≤ 10 ^ suc (m + j) = pow-le-pow-right (lit< tt) (omega arith) in
-    rw (suc-add m j, none-above (10 ^ suc (m + j)) n (omega (arith, h, below))) (digits-short m j n h)
+digits-short m j n h = rw (digits-from m j n h) (digits-few j n)
 
 pub decimal-three : (n : ℕ) → n < 1000 → length (decimalOf n) ≤ 3
 unfolding decimalOf

@@ -1,7 +1,7 @@
 -- Laws of writing over a buffer: its length stays, pieces one after the other are one piece, and what fits stands there whole.
 use mathlib.Core.Path.{_≡_, refl, sym, ap, _∙_}
 use mathlib.Core.List.{List, [], _∷_, _++_}
-use Prim.Native.Nat.{ℕ, zero, suc, _+_, _≤_}
+use Prim.Native.Nat.{ℕ, zero, suc, _+_, _≤_, _<_}
 use native.Mathlib.Nat.{zero-add, add-zero, suc-add, zero-min, suc-min-suc}
 use native.Mathlib.Omega.{arith}
 use lib.ListN.{length, drop, set, length-append, take-append-drop}
@@ -83,6 +83,9 @@ written-bound h = omega (arith, h .place, written-length h)
 -- no piece: a text begins so, from place 0 with the answer 0
 pub written-none : (at r : ℕ) (buffer : List ℕ) → r ≡ placeIn buffer at → Written at [] buffer r buffer
 written-none at r buffer h = record { place = rw add-zero h; octets = sym (overAt-nil at buffer) }
+
+pub written-one : (at x : ℕ) (buffer : List ℕ) → at < length buffer → Written at (x ∷ []) buffer (at + 1) (set buffer at x)
+written-one at x buffer h = record { place = omega arith; octets = sym (overAt-one at x buffer) }
 
 -- one piece and then another, from the place that was answered: this is all that a caller of several pieces cites
 pub written-then : {at r s : ℕ} {xs ys a b c : List ℕ} → Written at xs a r b → Written r ys b s c → Written at (xs ++ ys) a s c

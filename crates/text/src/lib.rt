@@ -3,9 +3,10 @@
 // none is too large for a usize, and an answer above the buffer's length says that the text did not fit.
 ghost use mathlib.Core.Path.{_≡_};
 ghost use mathlib.Core.List.{[], _∷_};
-ghost use Prim.Native.Nat.{_+_, _<_, _^_, min};
+ghost use Prim.Native.Nat.{_+_, _≤_, _<_, _^_, min};
+ghost use lib.ListN.{length};
 ghost use Rattle.text.specs.Over.{Written};
-ghost use Rattle.text.specs.Digits.{digitOf, hexOf, digitAt, decimalOf};
+ghost use Rattle.text.specs.Digits.{digitOf, hexOf, digitAt, digitsFrom, decimalOf};
 
 // A place of a buffer of `size` octets as it is answered: one past the end stands for each that is farther.
 fn place_in(size: usize, at: usize) -> usize
@@ -30,11 +31,25 @@ pub fn put(text: &mut [u8], at: usize, x: u8) -> usize
     n + 1
 }
 
-// Octets, as many as there are.
+// Octets that all have room.
+fn put_whole(text: &mut [u8], at: usize, xs: &[u8]) -> usize
+    requires { ⌜ at + length (now xs) ≤ length (now text) ⌝ }
+    ensures { λ r. ⌜ Written at (now (xs .entry)) (now (text .entry)) r (now (text .exit)) ⌝ }
+{
+    for i in 0..xs.len() {
+        text[at + i] = xs[i];
+    }
+    at + xs.len()
+}
+
+// Octets, as many as there are. The room is tested once where all have it.
 pub fn put_all(text: &mut [u8], at: usize, xs: &[u8]) -> usize
     ensures { λ r. ⌜ Written at (now (xs .entry)) (now (text .entry)) r (now (text .exit)) ⌝ }
 {
     let mut place = place_in(text.len(), at);
+    if place + xs.len() <= text.len() {
+        return put_whole(text, place, xs);
+    }
     let mut i = 0;
     while i < xs.len() {
         place = put(text, place, xs[i]);
@@ -73,17 +88,28 @@ fn put_digit_at(text: &mut [u8], at: usize, power: usize, n: usize) -> usize
     place_in(text.len(), at)
 }
 
-// A number in decimal, without leading zeros.
-pub fn put_decimal(text: &mut [u8], at: usize, n: usize) -> usize
-    ensures { λ r. ⌜ Written at (decimalOf n) (now (text .entry)) r (now (text .exit)) ⌝ }
+// The digits of a number from that of 10 ^ first on.
+fn put_digits(text: &mut [u8], at: usize, power: usize, first: usize, n: usize) -> usize
+    requires { ⌜ power ≡ 10 ^ first ⌝ }
+    ensures { λ r. ⌜ Written at (digitsFrom first n) (now (text .entry)) r (now (text .exit)) ⌝ }
 {
     let mut place = place_in(text.len(), at);
-    let mut power: usize = 10000000000000000000;
-    let mut k: usize = 19;
+    let mut here = power;
+    let mut k = first;
     while 0 < k {
-        place = put_digit_at(text, place, power, n);
-        power /= 10;
+        place = put_digit_at(text, place, here, n);
+        here /= 10;
         k -= 1;
     }
     put(text, place, digit((n % 10) as u8))
+}
+
+// A number in decimal, without leading zeros. Most are small, and the powers above them need no look.
+pub fn put_decimal(text: &mut [u8], at: usize, n: usize) -> usize
+    ensures { λ r. ⌜ Written at (decimalOf n) (now (text .entry)) r (now (text .exit)) ⌝ }
+{
+    if n < 100_000 {
+        return put_digits(text, at, 10_000, 4, n);
+    }
+    put_digits(text, at, 10_000_000_000_000_000_000, 19, n)
 }

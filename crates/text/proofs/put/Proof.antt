@@ -4,7 +4,7 @@ use native.Mathlib.Omega.{arith}
 use mathlib.Core.Path.{sym, _∙_}
 use denote.Ref.{now}
 use lib.Seq.{set-out}
-use Rattle.text.proofs.OverLaws.{overAt-one}
+use Rattle.text.proofs.OverLaws.{overAt-one, written-one}
 use Rattle.text.proofs.put.Statement.{statement}
 use Rattle.text.proofs.put.Tie as tie
 
@@ -20,7 +20,7 @@ same-length c = search needs
 returns : tie.Need-returns
 returns c =
     let a = c .before .args in
-    record { place = omega arith; octets = sym (overAt-one (a .at) (a .x) (now (a .text))) }
+    written-one (a .at) (a .x) (now (a .text)) (omega arith)
 
 add-result-2 : tie.Need-add-result-2
 add-result-2 c = search needs

@@ -1,7 +1,8 @@
--- `text::put_all` meets its contract. The loop's invariant: the first i octets are written.
+-- `text::put_all` meets its contract: all at once where all have room. The loop's invariant: the first i octets are written.
 use borrow.Author.Needs.{needs}
 use native.Mathlib.Omega.{arith}
 use native.Mathlib.Numerals.{add-one}
+use mathlib.Core.Path.{_≡_}
 use Prim.Native.Nat.{_-_, _≤_}
 use denote.Ref.{now}
 use lib.ListN.{length, take}
@@ -20,8 +21,23 @@ abbrev μ-loop : tie.MeasureT-loop
 place-in-requires : tie.Need-place-in-requires Inv-loop μ-loop
 place-in-requires c κs = search needs
 
+add-if1 : tie.Need-add-if1 Inv-loop μ-loop
+add-if1 c = search needs
+
+put-whole-requires : tie.Need-put-whole-requires Inv-loop μ-loop
+put-whole-requires c κs = search needs
+
+same-length : tie.Need-same-length Inv-loop μ-loop
+same-length c = search needs
+
+returns : tie.Need-returns Inv-loop μ-loop
+returns c =
+    let a = c .before .before .before .before .before .before .before .before .args in
+    let here : c .before .before .before .before .before .place-in .result ≡ a .at = omega arith in
+    rw here at (c .before .before .put-whole .ensures)
+
 loop-holds : tie.Need-loop-holds Inv-loop μ-loop
-loop-holds c = (search needs, written-none _ _ _ (c .place-in .ensures))
+loop-holds c = (search needs, written-none _ _ _ (c .before .place-in .ensures))
 
 shared-slice-read-put : tie.Need-shared-slice-read-put Inv-loop μ-loop
 shared-slice-read-put c = search needs
@@ -38,18 +54,18 @@ loop-less c = search needs
 loop-again : tie.Need-loop-again Inv-loop μ-loop
 loop-again c =
     let l = c .before .before .before .before .before .before .loop in
-    let xs = now (c .before .before .before .before .before .before .before .before .before .before .args .xs) in (
+    let xs = now (c .before .before .before .before .before .before .before .before .before .before .before .args .xs) in (
       omega arith,
       rw (add-one (l .i), take-suc xs (l .i) 0 (omega arith)) (written-then (l .inv .1) (c .before .before .put .ensures)),
     )
 
-same-length : tie.Need-same-length Inv-loop μ-loop
-same-length c = written-length (c .before .loop .inv .1)
+same-length-2 : tie.Need-same-length-2 Inv-loop μ-loop
+same-length-2 c = written-length (c .before .loop .inv .1)
 
-returns : tie.Need-returns Inv-loop μ-loop
-returns c =
+returns-2 : tie.Need-returns-2 Inv-loop μ-loop
+returns-2 c =
     let l = c .before .loop in
-    let xs = now (c .before .before .before .before .before .args .xs) in
+    let xs = now (c .before .before .before .before .before .before .args .xs) in
     rw (take-all (l .i) xs (omega arith)) at (l .inv .1)
 
 pub put-all-spec : {M : Type 1} → statement M
@@ -59,11 +75,15 @@ put-all-spec =
     Inv-loop
     μ-loop
     place-in-requires
+    add-if1
+    put-whole-requires
+    same-length
+    returns
     loop-holds
     shared-slice-read-put
     put-requires
     add-i
     loop-less
     loop-again
-    same-length
-    returns)
+    same-length-2
+    returns-2)

@@ -1,88 +1,40 @@
--- `text::put_decimal` meets its contract. The loop's invariant: the digits from 10 ^ k on, written next, make the number whole.
+-- `text::put_decimal` meets its contract: a small number has no digit above that of 10 ^ 4.
 use borrow.Author.Needs.{needs}
 use native.Mathlib.Omega.{arith}
-use native.Mathlib.Nat.{one-le-pow}
-use mathlib.Core.Path.{_≡_, refl, ap, _∙_}
-use mathlib.Core.List.{List}
-use Prim.Native.Nat.{ℕ, _/_, _^_}
-use lib.Dec.{lit<}
-use lib.ListN.{length}
-use Rattle.text.specs.Over.{Written}
-use Rattle.text.specs.Digits.{digitsFrom, decimalOf}
-use Rattle.text.proofs.OverLaws.{written-none, written-then}
-use Rattle.text.proofs.DigitLaws.{digits-last, digits-more, power-below}
+use Rattle.text.specs.Digits.{decimalOf}
+use Rattle.text.proofs.DigitLaws.{digits-from}
 use Rattle.text.proofs.put_decimal.Statement.{statement}
 use Rattle.text.proofs.put_decimal.Tie as tie
 
-abbrev Inv-loop : tie.InvT-loop
-Inv-loop text₀ at n place₀ power₀ k₀ text place power k =
-    (length text ≡ length text₀) × (power ≡ 10 ^ k)
-    × ((r : ℕ) (b : List ℕ) → Written place (digitsFrom k n) text r b → Written at (decimalOf n) text₀ r b)
+put-digits-requires : tie.Need-put-digits-requires
+put-digits-requires c κs = search needs
 
-abbrev μ-loop : tie.MeasureT-loop
-μ-loop text₀ at n place₀ power₀ k₀ text place power k = k
+same-length : tie.Need-same-length
+same-length c = search needs
 
-place-in-requires : tie.Need-place-in-requires Inv-loop μ-loop
-place-in-requires c κs = search needs
-
-loop-holds : tie.Need-loop-holds Inv-loop μ-loop
+returns : tie.Need-returns
 unfolding decimalOf
-loop-holds c = (refl, refl, λ r b w. written-then (written-none _ _ _ (c .place-in .ensures)) w)
-
-put-digit-at-requires : tie.Need-put-digit-at-requires Inv-loop μ-loop
-put-digit-at-requires c κs =
-    let l = c .before .before .loop in
-    rw (l .inv .1) (one-le-pow (l .k) 10 (lit< tt))
-
-sub-k : tie.Need-sub-k Inv-loop μ-loop
-sub-k c = search needs
-
-loop-less : tie.Need-loop-less Inv-loop μ-loop
-loop-less c = search needs
-
-loop-again : tie.Need-loop-again Inv-loop μ-loop
-loop-again c =
-    let l = c .before .before .before .before .before .loop in
-    let n = c .before .before .before .before .before .before .before .before .args .n in
-    let put = c .before .before .put-digit-at in (
-      put .kept .0 ∙ l .inv .0,
-      ap (λ (p : ℕ). p / 10) (l .inv .1) ∙ power-below (l .k) (omega arith),
-      λ r b w. l .inv .2 r b (rw (digits-more (l .k) n (omega arith), ← (l .inv .1)) (written-then (put .ensures) w)),
-    )
-
-cast-digit : tie.Need-cast-digit Inv-loop μ-loop
-cast-digit c = search needs
-
-digit-requires : tie.Need-digit-requires Inv-loop μ-loop
-digit-requires c κs = search needs
-
-put-requires : tie.Need-put-requires Inv-loop μ-loop
-put-requires c κs = search needs
-
-same-length : tie.Need-same-length Inv-loop μ-loop
-same-length c = c .before .before .put .kept .0 ∙ c .before .before .before .before .before .before .loop .inv .0
-
-returns : tie.Need-returns Inv-loop μ-loop
 returns c =
-    let l = c .before .before .before .before .before .before .loop in
-    let n = c .before .before .before .before .before .before .before .before .before .args .n in
-    let last : l .k ≡ 0 = omega arith in
-    l .inv .2 _ _ (rw (last, digits-last n, ← (c .before .before .before .digit .ensures)) (c .before .before .put .ensures))
+    let n = c .before .before .before .before .before .before .args .n in
+    rw (digits-from 15 4 n (omega arith)) (c .before .before .put-digits .ensures)
+
+put-digits-requires-2 : tie.Need-put-digits-requires-2
+put-digits-requires-2 c κs = search needs
+
+same-length-2 : tie.Need-same-length-2
+same-length-2 c = search needs
+
+returns-2 : tie.Need-returns-2
+unfolding decimalOf
+returns-2 c = c .before .before .put-digits2 .ensures
 
 pub put-decimal-spec : {M : Type 1} → statement M
 put-decimal-spec =
     tie.close
     (tie.spec
-    Inv-loop
-    μ-loop
-    place-in-requires
-    loop-holds
-    put-digit-at-requires
-    sub-k
-    loop-less
-    loop-again
-    cast-digit
-    digit-requires
-    put-requires
+    put-digits-requires
     same-length
-    returns)
+    returns
+    put-digits-requires-2
+    same-length-2
+    returns-2)
