@@ -13,14 +13,15 @@ use Rattle.reader.specs.State.{stateInRange}
 use Rattle.reader.specs.Step as reading
 use Rattle.reader.specs.declared.Reader.{Reader}
 use Rattle.reader.specs.declared.Outcome.{Outcome}
-use Rattle.reader.specs.declared.Answer as answer
-use Rattle.reader.proofs.OutcomeLaws.{takes, told-taken, look-taken}
+use Rattle.reader.specs.Refusals as judged
+use Rattle.reader.specs.declared.Refusal as why
+use Rattle.reader.specs.declared.Ruling as ruling
 use Rattle.reader.proofs.RangeLaws.{step-in-range}
 use Rattle.search.specs.Finding.{searchOf}
 use Rattle.search.specs.declared.Found.{Found}
 use Rattle.search.proofs.PlaceLaws.{found-fits}
 use Rattle.recording.specs.Refusals.{rulingOf}
-use Rattle.recording.specs.Walk.{leftFrom, blockAt, readAt, blockRead, foundAgain, answerHere, offBlock, isLost, answerBy, placeBy, readerBy, steppedBy, voiceBy, lsdBy, answerAt, stepAt, lookAt, voiceAt, lsdAt, Moved, Ready}
+use Rattle.recording.specs.Walk.{leftFrom, blockAt, blockRead, foundAgain, answerHere, offBlock, meetsNone, answerBy, placeBy, readerBy, steppedBy, voiceBy, lsdBy, ruledBy, movedBy, answerAt, stepAt, ruledAt, lookAt, voiceAt, lsdAt, Ready}
 use Rattle.recording.specs.declared.Refusal.the-variants.{BadState, VoiceLength, DataLength, PastTheEnd}
 use Rattle.recording.specs.declared.Ruling.{Ruling}
 use Rattle.recording.specs.declared.Ruling.the-variants.{Refuse, Go}
@@ -28,53 +29,99 @@ use Rattle.recording.specs.declared.Answer.{Answer}
 use Rattle.recording.specs.declared.Answer.the-variants.{Block, Place, End, Refused}
 use Rattle.recording.specs.declared.Stepped.{Stepped}
 
--- ---- a block that the reader takes
+-- ---- by the ruling
+module _ (recording : List ℕ) (place : ℕ) (lost : Bool) (s : Reader) (voice lsd : List ℕ) where
+  -- what the contract of a step says
+  abbrev pub Left : Stepped → List ℕ → List ℕ → Type 0
+  Left r v d =
+      (r ≡ stepAt recording place lost s voice lsd) × (v ≡ voiceAt recording place lost s voice lsd) × (d ≡ lsdAt recording place lost s voice lsd)
+
+  pub by-ruling : (q : Ruling) (r : Stepped) (v d : List ℕ) → rulingOf (length recording) place s (length voice) (length lsd) ≡ q
+      → r ≡ steppedBy (answerBy q recording place lost s) recording place lost s
+      → v ≡ voiceBy (answerBy q recording place lost s) recording place s voice
+      → d ≡ lsdBy (answerBy q recording place lost s) recording place s lsd
+      → Left r v d
+  unfolding stepAt voiceAt lsdAt answerAt
+  by-ruling q r v d e a b f = (rw (e, a), rw (e, b), rw (e, f))
+
+  -- a look says the same where the buffers fit
+  pub look-step : length voice ≡ 140 → length lsd ≡ 156 → lookAt recording place lost s ≡ stepAt recording place lost s voice lsd
+  unfolding lookAt stepAt answerAt
+  look-step v d = rw (v, d)
+
+  -- any two outcomes that it allows are equal
+  pub step-settled : (r q : Stepped) (v w d e : List ℕ) → Left r v d → Left q w e → (r ≡ q) × (v ≡ w) × (d ≡ e)
+  step-settled r q v w d e x y = (settled (x .0) (y .0), settled (x .1) (y .1), settled (x .2) (y .2))
+
+-- ---- where a step meets a block
 -- the part lent to the reader is the block at the place
 pub lent-block : (n place : ℕ) (recording : List ℕ) → n ≡ 160 → take n (drop place recording) ≡ blockAt recording place
 lent-block n place recording e = ap (λ (k : ℕ). take k (drop place recording)) e
 
-block-length : (recording : List ℕ) (place : ℕ) → place + 160 ≤ length recording → length (blockAt recording place) ≡ 160
-block-length recording place h = length-take-le 160 (drop place recording) (omega (arith, length-drop place recording))
+pub record Met (recording : List ℕ) (place : ℕ) (lost : Bool) : Type 0 where
+  pub small : length recording ≤ 65536
+  pub inside : place + 160 ≤ length recording
+  pub here : (s : Reader) → answerHere recording place lost s ≡ blockRead s recording place
 
-module _ (s : Reader) (recording : List ℕ) (place : ℕ) (voice lsd : List ℕ) (inside : place + 160 ≤ length recording)
-    (ready : Ready s (length voice) (length lsd)) (line : List ℕ) (lent : line ≡ blockAt recording place) where
-  -- what the reader's contract says of it
-  pub block-told : (o : Outcome) (v d : List ℕ) → reading.Told s line voice lsd o v d
-      → (let p = readAt s recording place in
-      (o ≡ record { state = p .state; answer = answer.the-variants.Block (p .report) })
-      × (v ≡ reading.voiceBy (p .report .standing) (s .mode) (blockAt recording place))
-      × (d ≡ reading.lsdBy (p .report .standing) (s .mode) (blockAt recording place)))
-  block-told o v d t =
-      let fits = takes s (length line) (length voice) (length lsd) (record {
-        range = ready .range;
-        line-fits = ap length lent ∙ block-length recording place inside;
-        voice-fits = ready .heard;
-        lsd-fits = ready .given;
-      }) in
-      rw lent at (told-taken s line voice lsd o v d fits t)
+pub met : (recording : List ℕ) (place : ℕ) (lost : Bool) → meetsNone (length recording) place lost ≡ false → Met recording place lost
+met recording place lost = go (ltb 65536 (length recording)) lost refl
+  where
+    go : (b l : Bool) → ltb 65536 (length recording) ≡ b → (b || (l || ltb (leftFrom recording place) 160)) ≡ false → Met recording place l
+    go true l e q = let z : _≡_ {A = ℕ} 0 1 = cc in absurd (omega arith)
+    go false true e q = let z : _≡_ {A = ℕ} 0 1 = cc in absurd (omega arith)
+    go false false e q =
+        record { small = ltb-false _ _ e; inside = omega (arith, ltb-false (leftFrom recording place) 160 q); here = λ s. rw q }
 
-module _ (s : Reader) (recording : List ℕ) (place : ℕ) where
-  -- and a look's
-  pub block-looked : (line : List ℕ) (o : Outcome) → place + 160 ≤ length recording → stateInRange s ≡ true → line ≡ blockAt recording place
-      → o ≡ reading.lookOf s line
-      → (let p = readAt s recording place in o ≡ record { state = p .state; answer = answer.the-variants.Block (p .report) })
-  block-looked line o inside range lent e =
-      e ∙ rw lent (look-taken s (blockAt recording place) range (block-length recording place inside))
+module _ (recording : List ℕ) (place : ℕ) (lost : Bool) (s : Reader) (m : Met recording place lost) where
+  block-length : length (blockAt recording place) ≡ 160
+  block-length = length-take-le 160 (drop place recording) (omega (arith, m .inside, length-drop place recording))
 
-  -- so the step answers it, as the reader did
-  pub block-stepped : (o : Outcome) (r : Stepped) (lost : Bool)
-      → (let p = readAt s recording place in o ≡ record { state = p .state; answer = answer.the-variants.Block (p .report) })
-      → Moved o (place + 160) r
-      → r ≡ steppedBy (blockRead s recording place) recording place lost s
-  block-stepped o r lost e m =
-      m ((readAt s recording place) .report) (ap (λ (q : Outcome). q .answer) e)
-      ∙ ap (λ (q : Outcome). record { answer = blockRead s recording place; reader = q .state; place = place + 160; lost = isLost ((readAt s recording place) .report) }) e
+  -- the ruling is the reader's
+  rules-alike : (voice lsd : ℕ) → rulingOf (length recording) place s voice lsd ≡ ruledBy (judged.rulingOf s 160 voice lsd)
+  unfolding rulingOf judged.rulingOf
+  rules-alike voice lsd =
+      rw (le-ltb 65536 (length recording) (m .small), le-ltb (length recording) place (omega (arith, m .inside)))
+      (go (stateInRange s) (eqb voice 140) (eqb lsd 156))
+    where
+      go : (r v d : Bool)
+          → cond (not r) (Refuse BadState) (cond (not v) (Refuse VoiceLength) (cond (not d) (Refuse DataLength) Go))
+          ≡ ruledBy (cond (not r) (ruling.the-variants.Refuse why.the-variants.BadState) (cond (not v) (ruling.the-variants.Refuse why.the-variants.VoiceLength) (cond (not d) (ruling.the-variants.Refuse why.the-variants.DataLength) ruling.the-variants.Take)))
+      go false v d = refl
+      go true false d = refl
+      go true true false = refl
+      go true true true = refl
 
-  -- a step that is not after a lost block meets one where 160 octets are left
-  pub block-here : (lost : Bool) → offBlock recording place lost ≡ false
-      → (answerHere recording place lost s ≡ blockRead s recording place) × (160 ≤ leftFrom recording place)
-  block-here true e = let z : _≡_ {A = ℕ} 0 1 = cc in absurd (omega arith)
-  block-here false e = (rw e, ltb-false _ _ e)
+  -- so a step leaves what the reader leaves
+  moved-is : (q : ruling.Ruling)
+      → movedBy (reading.outcomeBy q s (blockAt recording place)) place lost ≡ steppedBy (answerBy (ruledBy q) recording place lost s) recording place lost s
+  moved-is (ruling.the-variants.Refuse r) = refl
+  moved-is ruling.the-variants.Take = rw (m .here s)
+
+  voice-is : (q : ruling.Ruling) (voice : List ℕ)
+      → reading.voiceIn q s (blockAt recording place) voice ≡ voiceBy (answerBy (ruledBy q) recording place lost s) recording place s voice
+  voice-is (ruling.the-variants.Refuse r) voice = refl
+  voice-is ruling.the-variants.Take voice = rw (m .here s)
+
+  lsd-is : (q : ruling.Ruling) (lsd : List ℕ)
+      → reading.lsdIn q s (blockAt recording place) lsd ≡ lsdBy (answerBy (ruledBy q) recording place lost s) recording place s lsd
+  lsd-is (ruling.the-variants.Refuse r) lsd = refl
+  lsd-is ruling.the-variants.Take lsd = rw (m .here s)
+
+  pub block-looked : (line : List ℕ) (o : Outcome) (r : Stepped) → line ≡ blockAt recording place → o ≡ reading.lookOf s line
+      → r ≡ movedBy o place lost → r ≡ lookAt recording place lost s
+  unfolding lookAt reading.lookOf
+  block-looked line o r lent e moved =
+      rw (rules-alike 140 156) (moved ∙ ap (λ (x : Outcome). movedBy x place lost) (rw (lent, block-length) at e) ∙ moved-is (judged.rulingOf s 160 140 156))
+
+  pub block-stepped : (line voice lsd : List ℕ) (o : Outcome) (r : Stepped) (v d : List ℕ) → line ≡ blockAt recording place
+      → reading.Told s line voice lsd o v d → r ≡ movedBy o place lost → Left recording place lost s voice lsd r v d
+  unfolding reading.outcomeOf reading.voiceOf reading.lsdOf
+  block-stepped line voice lsd o r v d lent t moved =
+      let q = judged.rulingOf s 160 (length voice) (length lsd) in
+      by-ruling recording place lost s voice lsd (ruledBy q) r v d (rules-alike (length voice) (length lsd))
+      (moved ∙ ap (λ (x : Outcome). movedBy x place lost) (rw (lent, block-length) at (t .outcome)) ∙ moved-is q)
+      ((rw (lent, block-length) at (t .heard)) ∙ voice-is q voice)
+      ((rw (lent, block-length) at (t .given)) ∙ lsd-is q lsd)
 
 -- ---- a step that meets no block leaves the buffers
 module _ (b : Answer) (left place : ℕ) (recording : List ℕ) (s : Reader) where
@@ -95,7 +142,7 @@ module _ (b : Answer) (left place : ℕ) (recording : List ℕ) (s : Reader) whe
   lsd-untouched false true f lsd e = refl
   lsd-untouched false false f lsd e = let z : _≡_ {A = ℕ} 0 1 = cc in absurd (omega arith)
 
--- ---- by the ruling
+-- ---- a step that no row refuses
 pub record Goes (all place : ℕ) (s : Reader) (voice lsd : ℕ) : Type 0 where
   pub ready : Ready s voice lsd
   pub small : all ≤ 65536
@@ -126,28 +173,27 @@ rules-go all place s voice lsd g =
     let k = g .ready in
     rw (k .range, eq-eqb voice 140 (k .heard), eq-eqb lsd 156 (k .given), le-ltb 65536 all (g .small), le-ltb all place (g .inside))
 
-module _ (recording : List ℕ) (place : ℕ) (lost : Bool) (s : Reader) (voice lsd : List ℕ) where
-  -- what the contract of a step says
-  abbrev pub Left : Stepped → List ℕ → List ℕ → Type 0
-  Left r v d =
-      (r ≡ stepAt recording place lost s voice lsd) × (v ≡ voiceAt recording place lost s voice lsd) × (d ≡ lsdAt recording place lost s voice lsd)
+-- ---- a step that meets no block: it is refused, or no row is in the way
+pub off-here : (all place : ℕ) (lost : Bool) → meetsNone all place lost ≡ true → all ≤ 65536 → offBlock all place lost ≡ true
+off-here all place lost e small = rw (le-ltb 65536 all small) at e
 
-  pub by-ruling : (q : Ruling) (r : Stepped) (v d : List ℕ) → rulingOf (length recording) place s (length voice) (length lsd) ≡ q
-      → r ≡ steppedBy (answerBy q recording place lost s) recording place lost s
-      → v ≡ voiceBy (answerBy q recording place lost s) recording place s voice
-      → d ≡ lsdBy (answerBy q recording place lost s) recording place s lsd
-      → Left r v d
-  unfolding stepAt voiceAt lsdAt answerAt
-  by-ruling q r v d e a b f = (rw (e, a), rw (e, b), rw (e, f))
+module _ (recording : List ℕ) (place : ℕ) (lost : Bool) (s : Reader) (voice lsd : List ℕ) (none : meetsNone (length recording) place lost ≡ true) where
+  off-left : (q : Ruling) → rulingOf (length recording) place s (length voice) (length lsd) ≡ q
+      → (voice ≡ voiceBy (answerBy q recording place lost s) recording place s voice) × (lsd ≡ lsdBy (answerBy q recording place lost s) recording place s lsd)
+  off-left (Refuse r) e = (refl, refl)
+  off-left Go e =
+      let left = leftFrom recording place in
+      let off = off-here (length recording) place lost none ((goes _ _ _ _ _ e) .small) in
+      let found = searchOf recording place in
+      let b = blockRead s recording place in (
+        voice-untouched b left place recording s lost (ltb left 160) found voice off,
+        lsd-untouched b left place recording s lost (ltb left 160) found lsd off,
+      )
 
-  -- a look says the same where the buffers fit
-  pub look-step : length voice ≡ 140 → length lsd ≡ 156 → lookAt recording place lost s ≡ stepAt recording place lost s voice lsd
-  unfolding lookAt stepAt answerAt
-  look-step v d = rw (v, d)
-
-  -- any two outcomes that it allows are equal
-  pub step-settled : (r q : Stepped) (v w d e : List ℕ) → Left r v d → Left q w e → (r ≡ q) × (v ≡ w) × (d ≡ e)
-  step-settled r q v w d e x y = (settled (x .0) (y .0), settled (x .1) (y .1), settled (x .2) (y .2))
+  pub off-stepped : (r : Stepped) → r ≡ ruledAt recording place lost s (length voice) (length lsd) → Left recording place lost s voice lsd r voice lsd
+  off-stepped r e =
+      let q = rulingOf (length recording) place s (length voice) (length lsd) in
+      by-ruling recording place lost s voice lsd q r voice lsd refl e (off-left q refl .0) (off-left q refl .1)
 
 -- a look that no row refuses says what the walk finds there
 pub look-here : (recording : List ℕ) (place : ℕ) (lost : Bool) (s : Reader) → Goes (length recording) place s 140 156

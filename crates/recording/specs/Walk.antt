@@ -13,11 +13,15 @@ use Rattle.reader.specs.declared.Report.{Report}
 use Rattle.reader.specs.declared.Stepped as read
 use Rattle.reader.specs.declared.Outcome as told
 use Rattle.reader.specs.declared.Answer as heard
+use Rattle.reader.specs.declared.Refusal as heardWhy
+use Rattle.reader.specs.declared.Ruling as heardRuling
 use Rattle.reader.specs.declared.Standing.{Standing}
 use Rattle.reader.specs.declared.Standing.the-variants.{Waiting, Read, Lost}
 use Rattle.search.specs.Finding.{searchOf}
 use Rattle.search.specs.declared.Found.{Found}
 use Rattle.recording.specs.Refusals.{rulingOf}
+use Rattle.recording.specs.declared.Refusal.{Refusal}
+use Rattle.recording.specs.declared.Refusal.the-variants.{BadState, VoiceLength, DataLength}
 use Rattle.recording.specs.declared.Ruling.{Ruling}
 use Rattle.recording.specs.declared.Ruling.the-variants.{Refuse, Go}
 use Rattle.recording.specs.declared.Answer.{Answer}
@@ -51,8 +55,12 @@ answerHere recording place lost s =
     cond lost (foundAgain (searchOf recording place) left) (cond (ltb left 160) (End left) (blockRead s recording place))
 
 -- so a step meets no block after a lost one, and none at the end
-abbrev pub offBlock : List ℕ → ℕ → Bool → Bool
-offBlock recording place lost = lost || ltb (leftFrom recording place) 160
+abbrev pub offBlock : ℕ → ℕ → Bool → Bool
+offBlock all place lost = lost || ltb (all - place) 160
+
+-- and none in a recording that is too long
+abbrev pub meetsNone : ℕ → ℕ → Bool → Bool
+meetsNone all place lost = ltb 65536 all || offBlock all place lost
 
 abbrev pub answerBy : Ruling → List ℕ → ℕ → Bool → Reader → Answer
 answerBy (Refuse r) recording place lost s = Refused r
@@ -102,11 +110,24 @@ abbrev pub steppedBy : Answer → List ℕ → ℕ → Bool → Reader → Stepp
 steppedBy a recording place lost s =
     record { answer = a; reader = readerBy a recording place s; place = placeBy a place; lost = lostBy a lost }
 
--- a block that the reader has answered leaves the walk at its end
-abbrev pub Moved : told.Outcome → ℕ → Stepped → Type 0
-Moved o end r =
-    (report : Report) → o .answer ≡ heard.the-variants.Block report
-    → r ≡ record { answer = Block report; reader = o .state; place = end; lost = isLost report }
+-- ---- the reader's answer to the block at the place, as the walk tells it; a block has its 160 octets
+abbrev pub refusedBy : heardWhy.Refusal → Refusal
+refusedBy heardWhy.the-variants.BadState = BadState
+refusedBy heardWhy.the-variants.LineLength = BadState
+refusedBy heardWhy.the-variants.VoiceLength = VoiceLength
+refusedBy heardWhy.the-variants.DataLength = DataLength
+
+abbrev pub ruledBy : heardRuling.Ruling → Ruling
+ruledBy (heardRuling.the-variants.Refuse why) = Refuse (refusedBy why)
+ruledBy heardRuling.the-variants.Take = Go
+
+abbrev pub movedBy : told.Outcome → ℕ → Bool → Stepped
+movedBy o place lost = by (o .answer)
+  where
+    by : heard.Answer → Stepped
+    by (heard.the-variants.Block report) =
+        record { answer = Block report; reader = o .state; place = place + 160; lost = isLost report }
+    by (heard.the-variants.Refused why) = record { answer = Refused (refusedBy why); reader = o .state; place = place; lost = lost }
 
 -- ---- the step: its answer, and what it leaves of the walk, the reader and the buffers
 unfoldable pub answerAt : List ℕ → ℕ → Bool → Reader → List ℕ → List ℕ → Answer
@@ -121,6 +142,11 @@ voiceAt recording place lost s voice lsd = voiceBy (answerAt recording place los
 
 unfoldable pub lsdAt : List ℕ → ℕ → Bool → Reader → List ℕ → List ℕ → List ℕ
 lsdAt recording place lost s voice lsd = lsdBy (answerAt recording place lost s voice lsd) recording place s lsd
+
+-- the same beside the buffers, with such lengths of theirs
+abbrev pub ruledAt : List ℕ → ℕ → Bool → Reader → ℕ → ℕ → Stepped
+ruledAt recording place lost s voice lsd =
+    steppedBy (answerBy (rulingOf (length recording) place s voice lsd) recording place lost s) recording place lost s
 
 -- what a step leaves beside the buffers is the same for all buffers that fit, so it can be had without any
 unfoldable pub lookAt : List ℕ → ℕ → Bool → Reader → Stepped

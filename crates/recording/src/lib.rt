@@ -3,10 +3,9 @@ ghost use mathlib.Core.Path.{_≡_};
 ghost use mathlib.Core.Bool.{true};
 ghost use Prim.Native.Nat.{_≤_};
 ghost use lib.ListN.{length};
-ghost use Rattle.reader.specs.State.{stateInRange};
 ghost use Rattle.search.specs.Finding.{searchOf};
 ghost use Rattle.recording.specs.Refusals.{numberOf, rulingOf};
-ghost use Rattle.recording.specs.Walk.{leftFrom, foundAgain, offBlock, isLost, answerHere, steppedBy, voiceBy, lsdBy, stepAt, lookAt, voiceAt, lsdAt, Moved, Ready};
+ghost use Rattle.recording.specs.Walk.{leftFrom, foundAgain, offBlock, meetsNone, isLost, answerHere, steppedBy, refusedBy, movedBy, ruledAt, stepAt, lookAt, voiceAt, lsdAt};
 use reader::Reader;
 use reader::Report;
 use search::Found;
@@ -81,28 +80,37 @@ fn is_lost(report: Report) -> bool
     }
 }
 
-// The walk after a block that the reader has answered: it is at the block's end.
-fn moved_on(outcome: reader::Outcome, end: usize) -> Stepped
-    ensures { λ r. ⌜ Moved outcome end r ⌝ }
+// The reader's refusal of a block, as a step's. It never refuses the block's length: a block has its 160 octets.
+fn refused_by(why: reader::Refusal) -> Refusal
+    ensures { λ r. ⌜ r ≡ refusedBy why ⌝ }
+{
+    match why {
+        reader::Refusal::BadState => Refusal::BadState,
+        reader::Refusal::LineLength => Refusal::BadState,
+        reader::Refusal::VoiceLength => Refusal::VoiceLength,
+        reader::Refusal::DataLength => Refusal::DataLength,
+    }
+}
+
+// The walk after the reader's answer to the block at its place: at the block's end, or where it was if the reader refused.
+fn moved_on(outcome: reader::Outcome, place: usize, lost: bool) -> Stepped
+    requires { ⌜ place ≤ 65536 ⌝ }
+    ensures { λ r. ⌜ r ≡ movedBy outcome place lost ⌝ }
 {
     let next = outcome.state;
     let answer = outcome.answer;
     match answer {
-        reader::Answer::Block(report) => {
-            let lost = is_lost(report);
-            Stepped {
-                answer: Answer::Block(report),
-                reader: next,
-                place: end,
-                lost: lost,
-            }
-        }
-        // Never: the rows were judged before.
-        reader::Answer::Refused(_why) => Stepped {
-            answer: Answer::Refused(Refusal::BadState),
+        reader::Answer::Block(report) => Stepped {
+            answer: Answer::Block(report),
             reader: next,
-            place: end,
-            lost: false,
+            place: place + 160,
+            lost: is_lost(report),
+        },
+        reader::Answer::Refused(why) => Stepped {
+            answer: Answer::Refused(refused_by(why)),
+            reader: next,
+            place: place,
+            lost: lost,
         },
     }
 }
@@ -129,17 +137,19 @@ fn seek(recording: &[u8], place: usize, s: Reader) -> Stepped
     }
 }
 
-// Whether a step meets no block.
-fn off_block(recording: &[u8], place: usize, lost: bool) -> bool
-    requires { ⌜ place ≤ length (now recording) ⌝ }
-    ensures { λ r. ⌜ r ≡ offBlock (now (recording .entry)) place lost ⌝ }
+// Whether a step meets no block: it is refused whatever else is given, or comes after a lost block or to the end.
+fn off_block(all: usize, place: usize, lost: bool) -> bool
+    ensures { λ r. ⌜ r ≡ meetsNone all place lost ⌝ }
 {
-    lost | (recording.len() - place < 160)
+    if all < place {
+        return true;
+    }
+    (65_536 < all) | (lost | (all - place < 160))
 }
 
 // A step that meets no block: after a lost block it searches, and else it is at the end.
 fn seek_or_end(recording: &[u8], place: usize, lost: bool, s: Reader) -> Stepped
-    requires { ⌜ (place ≤ length (now recording)) × (offBlock (now recording) place lost ≡ true) ⌝ }
+    requires { ⌜ (place ≤ length (now recording)) × (offBlock (length (now recording)) place lost ≡ true) ⌝ }
     ensures { λ r. ⌜ r ≡ steppedBy (answerHere (now (recording .entry)) place lost s) (now (recording .entry)) place lost s ⌝ }
 {
     if lost {
@@ -153,43 +163,32 @@ fn seek_or_end(recording: &[u8], place: usize, lost: bool, s: Reader) -> Stepped
     }
 }
 
-// A step that no row refuses.
-fn go(
+// A step that meets no block, with buffers of such lengths: by its ruling.
+fn off_by_ruling(
     recording: &[u8],
     place: usize,
     lost: bool,
     s: Reader,
-    voice: &mut [u8],
-    lsd: &mut [u8],
+    voice: usize,
+    lsd: usize,
 ) -> Stepped
-    requires { ⌜ Ready s (length (now voice)) (length (now lsd)) ⌝ }
-    requires { ⌜ place ≤ length (now recording) ⌝ }
-    ensures { λ r. ⌜ (r ≡ steppedBy (answerHere (now (recording .entry)) place lost s) (now (recording .entry)) place lost s)
-        × (now (voice .exit) ≡ voiceBy (answerHere (now (recording .entry)) place lost s) (now (recording .entry)) place s (now (voice .entry)))
-        × (now (lsd .exit) ≡ lsdBy (answerHere (now (recording .entry)) place lost s) (now (recording .entry)) place s (now (lsd .entry))) ⌝ }
+    requires { ⌜ meetsNone (length (now recording)) place lost ≡ true ⌝ }
+    ensures { λ r. ⌜ r ≡ ruledAt (now (recording .entry)) place lost s voice lsd ⌝ }
 {
-    if off_block(recording, place, lost) {
-        return seek_or_end(recording, place, lost, s);
+    let ruling = ruling_of(recording.len(), place, s, voice, lsd);
+    match ruling {
+        Ruling::Refuse(why) => Stepped {
+            answer: Answer::Refused(why),
+            reader: s,
+            place: place,
+            lost: lost,
+        },
+        Ruling::Go => seek_or_end(recording, place, lost, s),
     }
-    let end = place + 160;
-    let outcome = reader::read(s, &recording[place..end], voice, lsd);
-    moved_on(outcome, end)
 }
 
-// The same without the block's streams.
-fn look_on(recording: &[u8], place: usize, lost: bool, s: Reader) -> Stepped
-    requires { ⌜ (stateInRange s ≡ true) × (place ≤ length (now recording)) ⌝ }
-    ensures { λ r. ⌜ r ≡ steppedBy (answerHere (now (recording .entry)) place lost s) (now (recording .entry)) place lost s ⌝ }
-{
-    if off_block(recording, place, lost) {
-        return seek_or_end(recording, place, lost, s);
-    }
-    let end = place + 160;
-    let outcome = reader::look(s, &recording[place..end]);
-    moved_on(outcome, end)
-}
-
-// One step of a walk that stands at a place of a recording, the block before it lost or not.
+// One step of a walk that stands at a place of a recording, the block before it lost or not. Where it meets a block the reader judges the
+// state and the buffers.
 pub fn step(
     recording: &[u8],
     place: usize,
@@ -202,30 +201,22 @@ pub fn step(
         × (now (voice .exit) ≡ voiceAt (now (recording .entry)) place lost s (now (voice .entry)) (now (lsd .entry)))
         × (now (lsd .exit) ≡ lsdAt (now (recording .entry)) place lost s (now (voice .entry)) (now (lsd .entry))) ⌝ }
 {
-    let ruling = ruling_of(recording.len(), place, s, voice.len(), lsd.len());
-    match ruling {
-        Ruling::Refuse(why) => Stepped {
-            answer: Answer::Refused(why),
-            reader: s,
-            place: place,
-            lost: lost,
-        },
-        Ruling::Go => go(recording, place, lost, s, voice, lsd),
+    if off_block(recording.len(), place, lost) {
+        return off_by_ruling(recording, place, lost, s, voice.len(), lsd.len());
     }
+    let end = place + 160;
+    let outcome = reader::read(s, &recording[place..end], voice, lsd);
+    moved_on(outcome, place, lost)
 }
 
 // A step that hands out no voice and no data: the same answer, and the same state, place and loss.
 pub fn look(recording: &[u8], place: usize, lost: bool, s: Reader) -> Stepped
     ensures { λ r. ⌜ r ≡ lookAt (now (recording .entry)) place lost s ⌝ }
 {
-    let ruling = ruling_of(recording.len(), place, s, 140, 156);
-    match ruling {
-        Ruling::Refuse(why) => Stepped {
-            answer: Answer::Refused(why),
-            reader: s,
-            place: place,
-            lost: lost,
-        },
-        Ruling::Go => look_on(recording, place, lost, s),
+    if off_block(recording.len(), place, lost) {
+        return off_by_ruling(recording, place, lost, s, 140, 156);
     }
+    let end = place + 160;
+    let outcome = reader::look(s, &recording[place..end]);
+    moved_on(outcome, place, lost)
 }

@@ -1,34 +1,68 @@
--- `recording::look` meets its contract: by its ruling.
+-- `recording::look` meets its contract: the reader looks at a block, or none is met.
 use mathlib.Core.Path.{sym, _∙_}
-use Rattle.recording.specs.Walk.{lookAt}
-use Rattle.recording.proofs.StepLaws.{goes}
+use Prim.Native.Nat.{_+_, _-_}
+use native.Mathlib.Omega.{arith}
+use denote.Ref.{now}
 use borrow.Author.Needs.{needs}
+use Rattle.recording.specs.Walk.{lookAt}
+use Rattle.recording.proofs.StepLaws.{lent-block, Met, met, block-looked}
 use Rattle.recording.proofs.look.Statement.{statement}
 use Rattle.recording.proofs.look.Tie as tie
 
-ruling-of-requires : tie.Need-ruling-of-requires
-ruling-of-requires c κs = search needs
+off-block-requires : tie.Need-off-block-requires
+off-block-requires c κs = search needs
 
-enum-known-ruling : tie.Need-enum-known-ruling
-enum-known-ruling c = search needs
-
-enum-told : tie.Need-enum-told
-enum-told c = search needs
-
-look-on-requires : tie.Need-look-on-requires
-look-on-requires c κs =
-    let g = goes _ _ _ _ _ (sym (c .before .before .ruling-of .ensures) ∙ c .enum-told .given .1) in
-    (g .ready .range, g .inside)
+off-by-ruling-requires : tie.Need-off-by-ruling-requires
+off-by-ruling-requires c κs = sym (c .before .off-block .ensures) ∙ c .if1 .taken
 
 returns : tie.Need-returns
 unfolding lookAt
-returns c = rw (← c .before .before .before .ruling-of .ensures, c .before .ruling .given .1)
+returns c = c .off-by-ruling .ensures
+
+-- what the test of the place says where a block is met
+meets : (c : tie.Else1)
+    → (let a = c .before .before .before .args in
+    Met (now (a .recording)) (a .place) (a .lost))
+meets c = met _ _ _ (sym (c .before .off-block .ensures) ∙ c .if1 .left)
+
+add-end : tie.Need-add-end
+add-end c = omega (arith, meets c .inside)
+
+sub-look : tie.Need-sub-look
+sub-look c = search needs
+
+part-look-start : tie.Need-part-look-start
+part-look-start c = search needs
+
+part-look-end : tie.Need-part-look-end
+part-look-end c = omega (arith, meets c .inside)
+
+look-requires : tie.Need-look-requires
+look-requires c κs = search needs
+
+moved-on-requires : tie.Need-moved-on-requires
+moved-on-requires c κs =
+    let m = meets (c .before .before) in
+    omega (arith, m .inside, m .small)
 
 returns-2 : tie.Need-returns-2
-unfolding lookAt
-returns-2 c = rw (← c .before .before .before .ruling-of .ensures, c .before .enum-told .given .1) (c .look-on .ensures)
+returns-2 c =
+    let a = c .before .before .before .before .before .before .args in
+    let r = now (a .recording) in
+    block-looked r (a .place) (a .lost) (a .s) (meets (c .before .before .before)) _ _ _
+    (lent-block (a .place + 160 - a .place) (a .place) r (omega arith)) (c .before .look .ensures) (c .moved-on .ensures)
 
 pub look-spec : {M : Type 1} → statement M
 look-spec =
     tie.close
-    (tie.spec ruling-of-requires enum-known-ruling enum-told look-on-requires returns returns-2)
+    (tie.spec
+    off-block-requires
+    off-by-ruling-requires
+    returns
+    add-end
+    sub-look
+    part-look-start
+    part-look-end
+    look-requires
+    moved-on-requires
+    returns-2)

@@ -1,27 +1,50 @@
--- `recording::step` meets its contract: by its ruling.
-use mathlib.Core.Path.{refl, sym, _∙_}
-use Rattle.recording.specs.declared.Ruling.the-variants.{Refuse, Go}
-use Rattle.recording.proofs.StepLaws.{goes, by-ruling}
+-- `recording::step` meets its contract: the reader reads a block, or none is met.
+use mathlib.Core.Path.{sym, _∙_}
+use Prim.Native.Nat.{_+_, _-_}
+use native.Mathlib.Omega.{arith}
+use denote.Ref.{now}
 use borrow.Author.Needs.{needs}
+use Rattle.recording.proofs.StepLaws.{lent-block, Met, met, block-stepped, off-stepped}
 use Rattle.recording.proofs.step.Statement.{statement}
 use Rattle.recording.proofs.step.Tie as tie
 
-ruling-of-requires : tie.Need-ruling-of-requires
-ruling-of-requires c κs = search needs
+off-block-requires : tie.Need-off-block-requires
+off-block-requires c κs = search needs
 
-enum-known-ruling : tie.Need-enum-known-ruling
-enum-known-ruling c = search needs
-
-enum-told : tie.Need-enum-told
-enum-told c = search needs
-
-go-requires : tie.Need-go-requires
-go-requires c κs =
-    let g = goes _ _ _ _ _ (sym (c .before .before .before .before .ruling-of .ensures) ∙ c .before .before .enum-told .given .1) in
-    (g .ready, g .inside)
+off-by-ruling-requires : tie.Need-off-by-ruling-requires
+off-by-ruling-requires c κs = sym (c .before .off-block .ensures) ∙ c .if1 .taken
 
 returns : tie.Need-returns
-returns c = by-ruling _ _ _ _ _ _ (Refuse _) _ _ _ (sym (c .before .before .before .ruling-of .ensures) ∙ c .before .ruling .given .1) refl refl refl
+returns c =
+    let a = c .before .before .before .before .before .before .args in
+    off-stepped (now (a .recording)) (a .place) (a .lost) (a .s) (now (a .voice)) (now (a .lsd))
+    (sym (c .before .before .off-block .ensures) ∙ c .before .if1 .taken) _ (c .off-by-ruling .ensures)
+
+-- what the test of the place says where a block is met
+meets : (c : tie.Else1)
+    → (let a = c .before .before .before .before .before .args in
+    Met (now (a .recording)) (a .place) (a .lost))
+meets c = met _ _ _ (sym (c .before .off-block .ensures) ∙ c .if1 .left)
+
+add-end : tie.Need-add-end
+add-end c = omega (arith, meets c .inside)
+
+sub-read : tie.Need-sub-read
+sub-read c = search needs
+
+part-read-start : tie.Need-part-read-start
+part-read-start c = search needs
+
+part-read-end : tie.Need-part-read-end
+part-read-end c = omega (arith, meets c .inside)
+
+read-requires : tie.Need-read-requires
+read-requires c κs = search needs
+
+moved-on-requires : tie.Need-moved-on-requires
+moved-on-requires c κs =
+    let m = meets (c .before .before .before .before .before .before .before .before) in
+    omega (arith, m .inside, m .small)
 
 same-length : tie.Need-same-length
 same-length c = search needs
@@ -31,18 +54,24 @@ same-length-2 c = search needs
 
 returns-2 : tie.Need-returns-2
 returns-2 c =
-    let e = c .before .before .before .before .go .ensures in
-    by-ruling _ _ _ _ _ _ Go _ _ _ (sym (c .before .before .before .before .before .before .before .before .before .ruling-of .ensures) ∙ c .before .before .before .before .before .before .before .enum-told .given .1) (e .0) (e .1) (e .2)
+    let a = c .before .before .before .before .before .before .before .before .before .before .before .before .before .before .args in
+    let r = now (a .recording) in
+    block-stepped r (a .place) (a .lost) (a .s) (meets (c .before .before .before .before .before .before .before .before .before)) _ (now (a .voice)) (now (a .lsd)) _ _ _ _
+    (lent-block (a .place + 160 - a .place) (a .place) r (omega arith)) (c .before .before .before .before .before .read .ensures) (c .moved-on .ensures)
 
 pub step-spec : {M : Type 1} → statement M
 step-spec =
     tie.close
     (tie.spec
-    ruling-of-requires
-    enum-known-ruling
-    enum-told
-    go-requires
+    off-block-requires
+    off-by-ruling-requires
     returns
+    add-end
+    sub-read
+    part-read-start
+    part-read-end
+    read-requires
+    moved-on-requires
     same-length
     same-length-2
     returns-2)
