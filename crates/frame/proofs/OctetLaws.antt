@@ -138,3 +138,25 @@ channel-past p o h k l = rw (lt-leb o 16 h, le-leb (p .first) o k, lt-leb o (p .
 pub channel-lsd : (p : Layout) (o : ℕ) → 16 < o → p .first ≤ o → o ≤ p .last → channelBy p o ≡ Lsd
 unfolding channelBy
 channel-lsd p o h k l = rw (lt-leb o 16 h, le-leb (p .first) o k, le-leb o (p .last) l)
+
+-- past the service bits these do not count; and where they are left out and data has no SC octet, the bit is 1
+pub channel-unserved : (p : Layout) (o : ℕ) (bs cs ds : List Bool) → 16 ≤ o
+    → getD (streams cs [] ds (channelBy p (o + 1))) 0 true ≡ getD (streams bs [] ds (channelBy p (o + 1))) 0 true
+unfolding channelBy
+channel-unserved p o bs cs ds h = rw (lt-leb (o + 1) 16 (omega arith)) (go (leb (p .first) (o + 1)) (leb (o + 1) (p .last)))
+  where
+    go : (b c : Bool) → getD (streams cs [] ds (cond b (cond c Lsd Nobody) Nobody)) 0 true ≡ getD (streams bs [] ds (cond b (cond c Lsd Nobody) Nobody)) 0 true
+    go true true = refl
+    go true false = refl
+    go false c = refl
+
+pub channel-free : (p : Layout) (o : ℕ) (ds : List Bool) → sc p (o + 1) ≡ sc p o → getD (streams (drop o []) [] ds (channelBy p (o + 1))) 0 true ≡ true
+unfolding channelBy
+channel-free p o ds e = go (leb (o + 1) 16) (leb (p .first) (o + 1)) (leb (o + 1) (p .last)) refl refl
+  where
+    go : (a b c : Bool) → leb (p .first) (o + 1) ≡ b → leb (o + 1) (p .last) ≡ c
+        → getD (streams (drop o []) [] ds (cond a Service (cond b (cond c Lsd Nobody) Nobody))) 0 true ≡ true
+    go true b c eb ec = rw (drop-nil o)
+    go false true true eb ec = absurd (omega (arith, e, leb-true (p .first) (o + 1) eb, leb-true (o + 1) (p .last) ec))
+    go false true false eb ec = refl
+    go false false c eb ec = refl

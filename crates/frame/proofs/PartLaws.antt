@@ -22,7 +22,7 @@ use Rattle.frame.specs.Frame.{frameBy}
 use Rattle.frame.specs.Eight.{eights, fieldsOf, raisedBy, wordAt, headAt, tailAt, octetIn, octetsIn}
 use Rattle.places.specs.declared.Layout.{Layout}
 use Rattle.places.proofs.StreamLaws.{length-nexts, nexts-append}
-use Rattle.frame.proofs.OctetLaws.{ones, number-one, octet-lt, octet-parts, channel-service, channel-before, channel-past, channel-lsd}
+use Rattle.frame.proofs.OctetLaws.{ones, number-one, octet-lt, octet-parts, channel-service, channel-unserved, channel-free, channel-lsd}
 use Rattle.frame.proofs.WordLaws.{eights-plus, eights-each, eights-lt, octet-of}
 use Rattle.frame.proofs.WrittenLaws.{done, octet-done}
 
@@ -104,27 +104,26 @@ tail-service : (p : Layout) (bs ds : List Bool) (o : ℕ) → o < 16
 unfolding tailAt
 tail-service p bs ds o h = rw (channel-service p (o + 1) (omega arith))
 
-tail-free : (p : Layout) (bs ds : List Bool) (o : ℕ) → 16 ≤ o → (o + 1 < p .first) ⊎ ((p .first ≤ o + 1) × (p .last < o + 1))
-    → tailAt p bs ds o ≡ number (nexts (p .columns) (drop (o * p .columns + sc p o) ds)) * 2 + 1
+tail-free : (p : Layout) (ds : List Bool) (o : ℕ) → sc p (o + 1) ≡ sc p o
+    → tailAt p [] ds o ≡ number (nexts (p .columns) (drop (o * p .columns + sc p o) ds)) * 2 + 1
 unfolding tailAt
-tail-free p bs ds o h (inl b) = rw (channel-before p (o + 1) (omega arith) b)
-tail-free p bs ds o h (inr w) = rw (channel-past p (o + 1) (omega arith) (w .0) (w .1))
+tail-free p ds o e = rw (channel-free p o (drop (o * p .columns + sc p o + p .columns) ds) e)
 
-tail-owned : (p : Layout) (bs ds : List Bool) (o : ℕ) → 16 ≤ o → p .first ≤ o + 1 → o + 1 ≤ p .last
-    → tailAt p bs ds o ≡ number (nexts (p .columns + 1) (drop (o * p .columns + sc p o) ds))
+tail-owned : (p : Layout) (ds : List Bool) (o : ℕ) → 16 ≤ o → p .first ≤ o + 1 → o + 1 ≤ p .last
+    → tailAt p [] ds o ≡ number (nexts (p .columns + 1) (drop (o * p .columns + sc p o) ds))
 unfolding tailAt
-tail-owned p bs ds o h f l =
+tail-owned p ds o h f l =
     let at : ℕ = o * p .columns + sc p o in
     let last : List Bool = drop (p .columns) (drop at ds) in
     rw (channel-lsd p (o + 1) (omega arith) f l, nexts-append (p .columns) 1 (drop at ds), number-append (nexts (p .columns) (drop at ds)) (nexts 1 last), length-nexts 1 last, number-one last, drop-drop (p .columns) at ds)
 
 -- data with no columns has the SC bit alone
-pub tail-bit : (p : Layout) (bs ds : List Bool) (o d : ℕ) → p .columns ≡ 0
-    → digit (getD (streams (drop o bs) [] (drop (d + sc p o) ds) (channelBy p (o + 1))) 0 true) ≡ tailAt p bs (drop d ds) o
+pub tail-bit : (p : Layout) (ds : List Bool) (o d : ℕ) → p .columns ≡ 0
+    → digit (getD (streams [] [] (drop (d + sc p o) ds) (channelBy p (o + 1))) 0 true) ≡ tailAt p [] (drop d ds) o
 unfolding tailAt nexts number
-tail-bit p bs ds o d z =
+tail-bit p ds o d z =
     let at : d + (o * 0 + sc p o + 0) ≡ d + sc p o = omega arith in
-    rw (z, drop-drop (o * 0 + sc p o + 0) d ds, at, zero-mul, zero-add)
+    rw (z, drop-drop (o * 0 + sc p o + 0) d ds, at, drop-nil o, zero-mul, zero-add)
 
 -- ---- eights of tails. Where data has columns they are read from bit `at` of its buffer on
 columns-at : (p : Layout) (bits : List Bool) (o j d at : ℕ) → (p .columns ≡ 0) ⊎ (at + j * p .columns ≡ d + (o * p .columns + sc p o))
@@ -136,64 +135,82 @@ columns-at p bits o j d at (inr e) = rw (drop-drop (j * p .columns) at bits, e, 
 in-octet : (c k j : ℕ) → (8 * k + j) * c ≡ 8 * (k * c) + j * c
 in-octet c k j = rw (add-mul (8 * k) j c, mul-assoc 8 k c)
 
-pub eight-served : (p : Layout) (bs bits : List Bool) (k d at : ℕ) → Apart p → k < 2 → (p .columns ≡ 0) ⊎ (at ≡ d + 8 * (k * p .columns))
-    → raisedBy (p .columns) 1 0 (drop at bits) + eights (fieldsOf 1 (drop (8 * k) bs)) ≡ wordAt (tailAt p bs (drop d bits)) k
-unfolding raisedBy wordAt fieldsOf
-eight-served p bs bits k d at a h e =
-    eights-plus (λ j. fieldsOf c (drop at bits) j * 2 + 0) (fieldsOf 1 (drop (8 * k) bs))
-    ∙ eights-each (λ j. fieldsOf c (drop at bits) j * 2 + 0 + fieldsOf 1 (drop (8 * k) bs) j) (λ j. tailAt p bs (drop d bits) (8 * k + j)) each
-  where
-    c : ℕ
-    c = p .columns
+-- of an eight in which data has no SC octet
+sc-le : (p : Layout) (n m : ℕ) → n ≤ m → sc p n ≤ sc p m
+sc-le p n m h = omega arith
 
-    place : (j : ℕ) → j < 8 → (c ≡ 0) ⊎ (at ≡ d + 8 * (k * c)) → (c ≡ 0) ⊎ (at + j * c ≡ d + ((8 * k + j) * c + sc p (8 * k + j)))
-    place j l (inl z) = inl z
-    place j l (inr f) = inr (omega (arith, f, in-octet c k j, a .after))
+between : (x y z : ℕ) → x ≤ y → y ≤ z → z ≡ x → y ≡ x
+between x y z h l e = omega arith
 
-    each : (j : ℕ) → j < 8 → fieldsOf c (drop at bits) j * 2 + 0 + fieldsOf 1 (drop (8 * k) bs) j ≡ tailAt p bs (drop d bits) (8 * k + j)
-    each j l =
-        rw (tail-service p bs (drop d bits) (8 * k + j) (omega arith), ← columns-at p bits (8 * k + j) j d at (place j l e), drop-drop (j * 1) (8 * k) bs, mul-one j, number-one (drop (8 * k + j) bs), add-zero)
+sc-same : (p : Layout) (n j : ℕ) → j ≤ 8 → sc p (n + 8) ≡ sc p n → sc p (n + j) ≡ sc p n
+sc-same p n j h e = between (sc p n) (sc p (n + j)) (sc p (n + 8)) (sc-le p n (n + j) (omega arith)) (sc-le p (n + j) (n + 8) (omega arith)) e
 
-pub eight-free : (p : Layout) (bs bits : List Bool) (k d at : ℕ) → 2 ≤ k → (8 * k + 8 < p .first) ⊎ ((p .first ≤ 8 * k + 1) × (p .last ≤ 8 * k))
+pub eight-free : (p : Layout) (bits : List Bool) (k d at : ℕ) → sc p (8 * k + 8) ≡ sc p (8 * k)
     → (p .columns ≡ 0) ⊎ (at ≡ d + 8 * (k * p .columns) + sc p (8 * k))
-    → raisedBy (p .columns) 1 1 (drop at bits) ≡ wordAt (tailAt p bs (drop d bits)) k
+    → raisedBy (p .columns) 1 1 (drop at bits) ≡ wordAt (tailAt p [] (drop d bits)) k
 unfolding raisedBy wordAt
-eight-free p bs bits k d at h w e =
-    eights-each (λ j. fieldsOf c (drop at bits) j * 2 + 1) (λ j. tailAt p bs (drop d bits) (8 * k + j)) each
+eight-free p bits k d at free e =
+    eights-each (λ j. fieldsOf c (drop at bits) j * 2 + 1) (λ j. tailAt p [] (drop d bits) (8 * k + j)) each
   where
     c : ℕ
     c = p .columns
 
-    free : (j : ℕ) → j < 8 → (8 * k + 8 < p .first) ⊎ ((p .first ≤ 8 * k + 1) × (p .last ≤ 8 * k))
-        → (8 * k + j + 1 < p .first) ⊎ ((p .first ≤ 8 * k + j + 1) × (p .last < 8 * k + j + 1))
-    free j l (inl b) = inl (omega arith)
-    free j l (inr u) = inr (omega (arith, u .0), omega (arith, u .1))
+    place : (j : ℕ) → j < 8 → (c ≡ 0) ⊎ (at ≡ d + 8 * (k * c) + sc p (8 * k)) → (c ≡ 0) ⊎ (at + j * c ≡ d + ((8 * k + j) * c + sc p (8 * k + j)))
+    place j l (inl z) = inl z
+    place j l (inr f) = inr (rw (sc-same p (8 * k) j (omega arith) free, in-octet c k j) (omega (arith, f)))
 
-    place : (j : ℕ) → j < 8 → (8 * k + 8 < p .first) ⊎ ((p .first ≤ 8 * k + 1) × (p .last ≤ 8 * k)) → (c ≡ 0) ⊎ (at ≡ d + 8 * (k * c) + sc p (8 * k))
-        → (c ≡ 0) ⊎ (at + j * c ≡ d + ((8 * k + j) * c + sc p (8 * k + j)))
-    place j l u (inl z) = inl z
-    place j l (inl b) (inr f) = inr (omega (arith, f, b, in-octet c k j))
-    place j l (inr u) (inr f) = inr (omega (arith, f, u .0, u .1, in-octet c k j))
-
-    each : (j : ℕ) → j < 8 → fieldsOf c (drop at bits) j * 2 + 1 ≡ tailAt p bs (drop d bits) (8 * k + j)
+    each : (j : ℕ) → j < 8 → fieldsOf c (drop at bits) j * 2 + 1 ≡ tailAt p [] (drop d bits) (8 * k + j)
     each j l =
-        rw (tail-free p bs (drop d bits) (8 * k + j) (omega arith) (free j l w), ← columns-at p bits (8 * k + j) j d at (place j l w e))
+        let next : 8 * k + j + 1 ≡ 8 * k + (j + 1) = omega arith in
+        let none : sc p (8 * k + j + 1) ≡ sc p (8 * k + j) = ap (sc p) next ∙ sc-same p (8 * k) (j + 1) (omega arith) free ∙ sym (sc-same p (8 * k) j (omega arith) free) in
+        rw (tail-free p (drop d bits) (8 * k + j) none, ← columns-at p bits (8 * k + j) j d at (place j l e))
 
-pub eight-owned : (p : Layout) (bs bits : List Bool) (k d at : ℕ) → 2 ≤ k → p .first ≤ 8 * k + 1 → 8 * k + 8 ≤ p .last
+pub eight-owned : (p : Layout) (bits : List Bool) (k d at : ℕ) → 2 ≤ k → p .first ≤ 8 * k + 1 → 8 * k + 8 ≤ p .last
     → at ≡ d + 8 * (k * p .columns) + sc p (8 * k)
-    → raisedBy (p .columns + 1) 0 0 (drop at bits) ≡ wordAt (tailAt p bs (drop d bits)) k
+    → raisedBy (p .columns + 1) 0 0 (drop at bits) ≡ wordAt (tailAt p [] (drop d bits)) k
 unfolding raisedBy wordAt fieldsOf
-eight-owned p bs bits k d at h f l e =
-    eights-each (λ j. fieldsOf (c + 1) (drop at bits) j * 1 + 0) (λ j. tailAt p bs (drop d bits) (8 * k + j)) each
+eight-owned p bits k d at h f l e =
+    eights-each (λ j. fieldsOf (c + 1) (drop at bits) j * 1 + 0) (λ j. tailAt p [] (drop d bits) (8 * k + j)) each
   where
     c : ℕ
     c = p .columns
 
-    each : (j : ℕ) → j < 8 → fieldsOf (c + 1) (drop at bits) j * 1 + 0 ≡ tailAt p bs (drop d bits) (8 * k + j)
+    each : (j : ℕ) → j < 8 → fieldsOf (c + 1) (drop at bits) j * 1 + 0 ≡ tailAt p [] (drop d bits) (8 * k + j)
     each j i =
         let o : ℕ = 8 * k + j in
         let from : at + j * (c + 1) ≡ d + (o * c + sc p o) = rw (mul-add j c 1, mul-one j) (omega (arith, e, in-octet c k j)) in
-        rw (tail-owned p bs (drop d bits) o (omega arith) (omega arith) (omega arith), drop-drop (j * (c + 1)) at bits, from, drop-drop (o * c + sc p o) d bits, mul-one, add-zero)
+        rw (tail-owned p (drop d bits) o (omega arith) (omega arith) (omega arith), drop-drop (j * (c + 1)) at bits, from, drop-drop (o * c + sc p o) d bits, mul-one, add-zero)
+
+-- ---- the service bits stand in the first two eights, and without them ones
+abbrev columns-only : Layout → List Bool → ℕ → ℕ
+columns-only p ds o = number (nexts (p .columns) (drop (o * p .columns + sc p o) ds)) * 2
+
+with-service : (p : Layout) (bs ds : List Bool) (k : ℕ) → k < 2
+    → wordAt (columns-only p ds) k + eights (fieldsOf 1 (drop (8 * k) bs)) ≡ wordAt (tailAt p bs ds) k
+unfolding wordAt fieldsOf
+with-service p bs ds k h =
+    eights-plus (λ j. columns-only p ds (8 * k + j)) (fieldsOf 1 (drop (8 * k) bs))
+    ∙ eights-each (λ j. columns-only p ds (8 * k + j) + fieldsOf 1 (drop (8 * k) bs) j) (λ j. tailAt p bs ds (8 * k + j)) each
+  where
+    each : (j : ℕ) → j < 8 → columns-only p ds (8 * k + j) + fieldsOf 1 (drop (8 * k) bs) j ≡ tailAt p bs ds (8 * k + j)
+    each j l = rw (tail-service p bs ds (8 * k + j) (omega arith), drop-drop (j * 1) (8 * k) bs, mul-one j, number-one (drop (8 * k + j) bs))
+
+without-service : (k : ℕ) → eights (fieldsOf 1 (drop (8 * k) [])) ≡ eights (λ j. 1)
+unfolding fieldsOf
+without-service k = eights-each (fieldsOf 1 (drop (8 * k) [])) (λ j. 1) (λ j l. rw (drop-nil (8 * k), drop-nil (j * 1), number-one []))
+
+pub eight-served : (p : Layout) (bs ds : List Bool) (k : ℕ) → k < 2
+    → (eights (λ j. 1) ≤ wordAt (tailAt p [] ds) k) × (wordAt (tailAt p [] ds) k - eights (λ j. 1) + eights (fieldsOf 1 (drop (8 * k) bs)) ≡ wordAt (tailAt p bs ds) k)
+eight-served p bs ds k h =
+    let ones : wordAt (columns-only p ds) k + eights (λ j. 1) ≡ wordAt (tailAt p [] ds) k =
+    ap (λ (x : ℕ). wordAt (columns-only p ds) k + x) (sym (without-service k)) ∙ with-service p [] ds k h in
+    (omega (arith, ones), omega (arith, ones, with-service p bs ds k h))
+
+pub eight-unserved : (p : Layout) (bs ds : List Bool) (k : ℕ) → 2 ≤ k → wordAt (tailAt p [] ds) k ≡ wordAt (tailAt p bs ds) k
+unfolding wordAt tailAt
+eight-unserved p bs ds k h =
+    eights-each (λ j. tailAt p [] ds (8 * k + j)) (λ j. tailAt p bs ds (8 * k + j))
+    (λ j l. rw (channel-unserved p (8 * k + j) (drop (8 * k + j) bs) (drop (8 * k + j) []) _ (omega arith)))
 
 -- ---- both parts are the frame's octets
 abbrev pub octetAt : Layout → Streams → ℕ → ℕ

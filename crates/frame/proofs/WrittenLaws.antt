@@ -128,7 +128,9 @@ one-laid l from k x rule hk e laid j hf hj =
     (eq-or-lt-of-le le)
 
 -- the first two of a list set
-pub two-set : (l : List ℕ) (x y : ℕ) (rule : ℕ → ℕ) → 2 ≤ length l → x ≡ rule 0 → y ≡ rule 1 → (k : ℕ) → k < 2 → getD (set (set l 0 x) 1 y) k 0 ≡ rule k
-two-set l x y rule h ex ey zero hk = getD-set-other (set l 0 x) 1 0 y 0 (λ e. omega arith) ∙ getD-set-same l 0 x 0 (omega arith) ∙ ex
-two-set l x y rule h ex ey (suc zero) hk = getD-set-same (set l 0 x) 1 y 0 (rw length-set (omega arith)) ∙ ey
-two-set l x y rule h ex ey (suc (suc k)) hk = absurd (omega arith)
+pub two-set : (l : List ℕ) (n x y : ℕ) (rule : ℕ → ℕ) → 2 ≤ length l → x ≡ rule 0 → y ≡ rule 1 → ((k : ℕ) → 2 ≤ k → k < n → getD l k 0 ≡ rule k)
+    → (k : ℕ) → k < n → getD (set (set l 0 x) 1 y) k 0 ≡ rule k
+two-set l n x y rule h ex ey rest zero hk = getD-set-other (set l 0 x) 1 0 y 0 (λ e. omega arith) ∙ getD-set-same l 0 x 0 (omega arith) ∙ ex
+two-set l n x y rule h ex ey rest (suc zero) hk = getD-set-same (set l 0 x) 1 y 0 (rw length-set (omega arith)) ∙ ey
+two-set l n x y rule h ex ey rest (suc (suc k)) hk =
+    getD-set-other (set l 0 x) 1 (suc (suc k)) y 0 (λ e. omega arith) ∙ getD-set-other l 0 (suc (suc k)) x 0 (λ e. omega arith) ∙ rest (suc (suc k)) (omega arith) hk

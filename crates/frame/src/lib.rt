@@ -1,7 +1,7 @@
 // The writer: both frames of a block, from its header, voice and data (document 01, 'Codes and bit places' and 'Sending a block').
 ghost use mathlib.Core.Path.{_≡_};
-ghost use mathlib.Core.Bool.{Bool, true, false};
-ghost use mathlib.Core.List.{List, [], _++_};
+ghost use mathlib.Core.Bool.{true};
+ghost use mathlib.Core.List.{[], _++_};
 ghost use Prim.Native.Nat.{ℕ, _+_, _-_, _*_, _/_, _%_, _^_, _<_, _≤_};
 ghost use lib.ListN.{length, getD, drop};
 ghost use lib.Seq.{paste};
@@ -56,7 +56,7 @@ fn sc_before(p: Layout, n: usize) -> usize
 // The SC bit of octet o + 1, past the service bits: the data bit at `at`, or 1.
 fn own_bit(p: Layout, o: usize, lsd: &[u8], at: usize) -> usize
     requires { ⌜ (16 ≤ o) × (o < 80) × (at + 1 ≤ 8 * length (now lsd)) ⌝ }
-    ensures { λ r. ⌜ ((service : List Bool) → r ≡ digit (getD (streams service [] (drop at (bitsOf (now (lsd .entry)))) (channelBy p (o + 1))) 0 true)) ⌝ }
+    ensures { λ r. ⌜ r ≡ digit (getD (streams [] [] (drop at (bitsOf (now (lsd .entry)))) (channelBy p (o + 1))) 0 true) ⌝ }
 {
     let first = p.first as usize;
     let last = p.last as usize;
@@ -147,15 +147,11 @@ fn lay(
     up: usize,
     below: usize,
 )
-    requires { ⌜ (length (now lanes) ≡ 10) × (from ≤ to) × (to ≤ 10) × (n + up ≤ 8) × (below < 2 ^ up) ⌝ }
+    requires { ⌜ (length (now lanes) ≡ 10) × (from ≤ to) × (to ≤ 10) × (0 < n) × (n + up ≤ 8) × (below < 2 ^ up) ⌝ }
     requires { ⌜ i + (to - from) * n ≤ length (now buffer) ⌝ }
     ensures { λ _. ⌜ ((k : ℕ) → k < from → getD (now (lanes .exit)) k 0 ≡ getD (now (lanes .entry)) k 0) × ((k : ℕ) → from ≤ k → k < to → getD (now (lanes .exit)) k 0 ≡ raisedBy n up below (drop (8 * (i + (k - from) * n)) (bitsOf (now (buffer .entry))))) ⌝ }
 {
     let same = alike(below);
-    if n == 0 {
-        fill_eights(lanes, from, to, same);
-        return;
-    }
     for k in from..to {
         lanes[k] = (lane(buffer, i + (k - from) * n, n) << up) + same;
     }
@@ -187,7 +183,7 @@ fn heads(lanes: &mut [usize], p: Layout, mute: bool, voice: &[u8], v: usize)
 // The SC bits of the eight octets from o + 1 on, past the service bits, one by one: data has no columns.
 fn cut_eight(p: Layout, o: usize, lsd: &[u8], d: usize) -> usize
     requires { ⌜ (p .columns ≡ 0) × (16 ≤ o) × (o + 8 ≤ 80) × (16 < p .first) × (d ≤ 624) × (length (now lsd) ≡ 156) ⌝ }
-    ensures { λ r. ⌜ ((service : List Bool) → r ≡ eights (λ j. tailAt p service (drop d (bitsOf (now (lsd .entry)))) (o + j))) ⌝ }
+    ensures { λ r. ⌜ r ≡ eights (λ j. tailAt p [] (drop d (bitsOf (now (lsd .entry)))) (o + j)) ⌝ }
 {
     let mut eight = 0;
     for j in 0..8 {
@@ -200,7 +196,7 @@ fn cut_eight(p: Layout, o: usize, lsd: &[u8], d: usize) -> usize
 fn cut(lanes: &mut [usize], a: usize, b: usize, p: Layout, lsd: &[u8], d: usize)
     requires { ⌜ (length (now lanes) ≡ 10) × (2 ≤ a) × (a ≤ b) × (b ≤ 10) ⌝ }
     requires { ⌜ (p .columns ≡ 0) × (16 < p .first) × (d ≤ 624) × (length (now lsd) ≡ 156) ⌝ }
-    ensures { λ _. ⌜ ((k : ℕ) → k < a → getD (now (lanes .exit)) k 0 ≡ getD (now (lanes .entry)) k 0) × ((service : List Bool) (k : ℕ) → a ≤ k → k < b → getD (now (lanes .exit)) k 0 ≡ wordAt (tailAt p service (drop d (bitsOf (now (lsd .entry))))) k) ⌝ }
+    ensures { λ _. ⌜ ((k : ℕ) → k < a → getD (now (lanes .exit)) k 0 ≡ getD (now (lanes .entry)) k 0) × ((k : ℕ) → a ≤ k → k < b → getD (now (lanes .exit)) k 0 ≡ wordAt (tailAt p [] (drop d (bitsOf (now (lsd .entry))))) k) ⌝ }
 {
     for k in a..b {
         lanes[k] = cut_eight(p, 8 * k, lsd, d);
@@ -212,7 +208,7 @@ fn own_eights(lanes: &mut [usize], a: usize, b: usize, p: Layout, lsd: &[u8], d:
     requires { ⌜ (length (now lanes) ≡ 10) × (a ≡ (p .first - 1) / 8) × (b ≡ (p .last + 7) / 8) ⌝ }
     requires { ⌜ Apart p ⌝ }
     requires { ⌜ (length (now lsd) ≡ 156) × (d ≤ 624) × (inEights p ≡ true → d % 8 ≡ 0) ⌝ }
-    ensures { λ _. ⌜ ((k : ℕ) → k < a → getD (now (lanes .exit)) k 0 ≡ getD (now (lanes .entry)) k 0) × ((service : List Bool) (k : ℕ) → a ≤ k → k < b → getD (now (lanes .exit)) k 0 ≡ wordAt (tailAt p service (drop d (bitsOf (now (lsd .entry))))) k) ⌝ }
+    ensures { λ _. ⌜ ((k : ℕ) → k < a → getD (now (lanes .exit)) k 0 ≡ getD (now (lanes .entry)) k 0) × ((k : ℕ) → a ≤ k → k < b → getD (now (lanes .exit)) k 0 ≡ wordAt (tailAt p [] (drop d (bitsOf (now (lsd .entry))))) k) ⌝ }
 {
     let c = p.columns as usize;
     if places::in_eights(p) {
@@ -222,34 +218,54 @@ fn own_eights(lanes: &mut [usize], a: usize, b: usize, p: Layout, lsd: &[u8], d:
     cut(lanes, a, b, p, lsd, d);
 }
 
-// Data's columns and the service bits in the first two eights of a frame.
-fn first_eights(lanes: &mut [usize], p: Layout, service: u16, lsd: &[u8], d: usize)
+// Data's columns in eights `from` to `to` of a frame's ten, from octet i of its buffer on, and ones in the SC bits. The eights before are as
+// they were.
+fn lay_columns(lanes: &mut [usize], from: usize, to: usize, lsd: &[u8], i: usize, c: usize)
+    requires { ⌜ (length (now lanes) ≡ 10) × (from ≤ to) × (to ≤ 10) × (c ≤ 7) ⌝ }
+    requires { ⌜ i + (to - from) * c ≤ length (now lsd) ⌝ }
+    ensures { λ _. ⌜ ((k : ℕ) → k < from → getD (now (lanes .exit)) k 0 ≡ getD (now (lanes .entry)) k 0) × ((k : ℕ) → from ≤ k → k < to → getD (now (lanes .exit)) k 0 ≡ raisedBy c 1 1 (drop (8 * (i + (k - from) * c)) (bitsOf (now (lsd .entry))))) ⌝ }
+{
+    if c == 0 {
+        fill_eights(lanes, from, to, alike(1));
+        return;
+    }
+    lay(lanes, from, to, lsd, i, c, 1, 1);
+}
+
+// Data's columns and SC bits in the ten eights of a frame, data from its bit d on: in one run where it has no SC octets, and else in three.
+// The SC bits that are not its own are ones.
+fn data_eights(lanes: &mut [usize], p: Layout, lsd: &[u8], d: usize)
     requires { ⌜ length (now lanes) ≡ 10 ⌝ }
     requires { ⌜ Apart p ⌝ }
     requires { ⌜ (length (now lsd) ≡ 156) × (d ≤ 624) × (inEights p ≡ true → d % 8 ≡ 0) ⌝ }
-    ensures { λ _. ⌜ ((k : ℕ) → k < 2 → getD (now (lanes .exit)) k 0 ≡ wordAt (tailAt p (lowBits 16 service) (drop d (bitsOf (now (lsd .entry))))) k) ⌝ }
+    ensures { λ _. ⌜ ((k : ℕ) → k < 10 → getD (now (lanes .exit)) k 0 ≡ wordAt (tailAt p [] (drop d (bitsOf (now (lsd .entry))))) k) ⌝ }
 {
-    lay(lanes, 0, 2, lsd, d / 8, p.columns as usize, 1, 0);
-    lanes[0] = lanes[0] + spread((service / 256) as usize, 1);
-    lanes[1] = lanes[1] + spread((service % 256) as usize, 1);
+    let c = p.columns as usize;
+    let j = d / 8;
+    if p.last < p.first {
+        lay_columns(lanes, 0, 10, lsd, j, c);
+        return;
+    }
+    let a = (p.first as usize - 1) / 8;
+    let b = (p.last as usize + 7) / 8;
+    lay_columns(lanes, 0, a, lsd, j, c);
+    own_eights(lanes, a, b, p, lsd, d);
+    lay_columns(lanes, b, 10, lsd, j + b * c + (b - a), c);
 }
 
-// Data's columns and the SC bits in the ten eights of a frame, data from its bit d on. Between the service bits and data's own SC octets,
-// and after those, they are ones.
+// Data's columns and the SC bits in the ten eights of a frame. In the first two the service bits take the place of ones.
 fn tails(lanes: &mut [usize], p: Layout, service: u16, lsd: &[u8], d: usize)
     requires { ⌜ length (now lanes) ≡ 10 ⌝ }
     requires { ⌜ Apart p ⌝ }
     requires { ⌜ (length (now lsd) ≡ 156) × (d ≤ 624) × (inEights p ≡ true → d % 8 ≡ 0) ⌝ }
     ensures { λ _. ⌜ ((k : ℕ) → k < 10 → getD (now (lanes .exit)) k 0 ≡ wordAt (tailAt p (lowBits 16 service) (drop d (bitsOf (now (lsd .entry))))) k) ⌝ }
 {
-    let c = p.columns as usize;
-    let a = (p.first as usize - 1) / 8;
-    let b = (p.last as usize + 7) / 8;
-    let j = d / 8;
-    first_eights(lanes, p, service, lsd, d);
-    lay(lanes, 2, a, lsd, j + 2 * c, c, 1, 1);
-    own_eights(lanes, a, b, p, lsd, d);
-    lay(lanes, b, 10, lsd, j + b * c + (b - a), c, 1, 1);
+    data_eights(lanes, p, lsd, d);
+    let ones = alike(1);
+    let first = lanes[0] - ones + spread((service / 256) as usize, 1);
+    let second = lanes[1] - ones + spread((service % 256) as usize, 1);
+    lanes[0] = first;
+    lanes[1] = second;
 }
 
 // Eight octets, from a number, written from octet o + 1 on.

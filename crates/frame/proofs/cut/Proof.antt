@@ -1,7 +1,6 @@
 -- `frame::cut` meets its contract: the loop's invariant: the eights before k are the definition's, and those before a are as they were.
 use mathlib.Core.Path.{_≡_, refl, _∙_}
-use mathlib.Core.Bool.{Bool}
-use mathlib.Core.List.{List}
+use mathlib.Core.List.{[]}
 use Prim.Native.Nat.{ℕ, _-_, _≤_, _<_}
 use native.Mathlib.Omega.{arith}
 use denote.Ref.{now}
@@ -15,13 +14,13 @@ use Rattle.frame.proofs.cut.Statement.{statement}
 use Rattle.frame.proofs.cut.Tie as tie
 
 abbrev Inv-loop : tie.InvT-loop
-Inv-loop lanes₀ a b p lsd d k₀ lanes k = (a ≤ k) × (k ≤ b) × (length lanes ≡ length lanes₀) × ((j : ℕ) → j < a → getD lanes j 0 ≡ getD lanes₀ j 0) × ((service : List Bool) (j : ℕ) → a ≤ j → j < k → getD lanes j 0 ≡ wordAt (tailAt p service (drop d (bitsOf lsd))) j)
+Inv-loop lanes₀ a b p lsd d k₀ lanes k = (a ≤ k) × (k ≤ b) × (length lanes ≡ length lanes₀) × ((j : ℕ) → j < a → getD lanes j 0 ≡ getD lanes₀ j 0) × ((j : ℕ) → a ≤ j → j < k → getD lanes j 0 ≡ wordAt (tailAt p [] (drop d (bitsOf lsd))) j)
 
 abbrev μ-loop : tie.MeasureT-loop
 μ-loop lanes₀ a b p lsd d k₀ lanes k = b - k
 
 loop-holds : tie.Need-loop-holds Inv-loop μ-loop
-loop-holds c = (omega arith, omega arith, refl, λ j l. refl, λ bs j f l. absurd (omega arith))
+loop-holds c = (omega arith, omega arith, refl, λ j l. refl, λ j f l. absurd (omega arith))
 
 mul-cut-eight : tie.Need-mul-cut-eight Inv-loop μ-loop
 mul-cut-eight c = search needs
@@ -52,7 +51,7 @@ loop-again c =
       omega arith,
       simp length-set (l .inv .2),
       λ j h. getD-set-other (l .lanes) (l .k) j x 0 (λ e. omega arith) ∙ l .inv .3 j h,
-      λ bs. one-laid (l .lanes) (a .a) (l .k) x (wordAt (tailAt (a .p) bs (drop (a .d) (bitsOf (now (a .lsd)))))) inside (c .cut-eight .ensures bs) (l .inv .4 bs),
+      one-laid (l .lanes) (a .a) (l .k) x (wordAt (tailAt (a .p) [] (drop (a .d) (bitsOf (now (a .lsd)))))) inside (c .cut-eight .ensures) (l .inv .4),
     )
 
 same-length : tie.Need-same-length Inv-loop μ-loop
@@ -61,7 +60,7 @@ same-length c = search needs
 returns : tie.Need-returns Inv-loop μ-loop
 returns c =
     let l = c .before .loop in
-    (l .inv .3, λ bs k f t. l .inv .4 bs k f (omega arith))
+    (l .inv .3, λ k f t. l .inv .4 k f (omega arith))
 
 pub cut-spec : {M : Type 1} → statement M
 cut-spec =

@@ -1,7 +1,7 @@
 -- `frame::cut_eight` meets its contract: the loop's invariant: the number has the first j octets.
 use mathlib.Core.Path.{_≡_, refl, ap, _∙_}
 use mathlib.Core.Bool.{Bool, true, false}
-use mathlib.Core.List.{List, []}
+use mathlib.Core.List.{[]}
 use Prim.Native.Nat.{ℕ, _+_, _-_, _*_, _^_, _≤_, _<_}
 use native.Mathlib.Numerals.{add-one}
 use native.Mathlib.Omega.{arith}
@@ -20,7 +20,7 @@ use Rattle.frame.proofs.cut_eight.Statement.{statement}
 use Rattle.frame.proofs.cut_eight.Tie as tie
 
 abbrev Inv-loop : tie.InvT-loop
-Inv-loop p o lsd d eight₀ j₀ eight j = (j ≤ 8) × (eight < 2 ^ (8 * j)) × ((service : List Bool) → eight ≡ firsts (λ (i : ℕ). tailAt p service (drop d (bitsOf lsd)) (o + i)) j)
+Inv-loop p o lsd d eight₀ j₀ eight j = (j ≤ 8) × (eight < 2 ^ (8 * j)) × (eight ≡ firsts (λ (i : ℕ). tailAt p [] (drop d (bitsOf lsd)) (o + i)) j)
 
 abbrev μ-loop : tie.MeasureT-loop
 μ-loop p o lsd d eight₀ j₀ eight j = 8 - j
@@ -29,23 +29,20 @@ digit-le : (x : ℕ) (b : Bool) → x ≡ digit b → x ≤ 1
 digit-le x true e = omega arith
 digit-le x false e = omega arith
 
-bit-is : (c : tie.After-own-bit Inv-loop μ-loop) (bs : List Bool)
+bit-is : (c : tie.After-own-bit Inv-loop μ-loop)
     → (let a = c .before .before .before .before .before .args in
     let o = a .o + c .before .before .before .loop .j in
-    c .own-bit .result ≡ digit (getD (streams (drop o bs) [] (drop (a .d + sc (a .p) o) (bitsOf (now (a .lsd)))) (channelBy (a .p) (o + 1))) 0 true))
-bit-is c bs =
-    let a = c .before .before .before .before .before .args in
-    let o = a .o + c .before .before .before .loop .j in
-    rw (← c .before .sc-before .ensures) (c .own-bit .ensures (drop o bs))
+    c .own-bit .result ≡ digit (getD (streams [] [] (drop (a .d + sc (a .p) o) (bitsOf (now (a .lsd)))) (channelBy (a .p) (o + 1))) 0 true))
+bit-is c = rw (← c .before .sc-before .ensures) (c .own-bit .ensures)
 
 bit-le : (c : tie.After-own-bit Inv-loop μ-loop) → c .own-bit .result ≤ 1
 bit-le c =
     let a = c .before .before .before .before .before .args in
     let o = a .o + c .before .before .before .loop .j in
-    digit-le (c .own-bit .result) (getD (streams (drop o []) [] (drop (a .d + sc (a .p) o) (bitsOf (now (a .lsd)))) (channelBy (a .p) (o + 1))) 0 true) (bit-is c [])
+    digit-le (c .own-bit .result) (getD (streams [] [] (drop (a .d + sc (a .p) o) (bitsOf (now (a .lsd)))) (channelBy (a .p) (o + 1))) 0 true) (bit-is c)
 
 loop-holds : tie.Need-loop-holds Inv-loop μ-loop
-loop-holds c = (omega arith, lit< tt, λ bs. refl)
+loop-holds c = (omega arith, lit< tt, refl)
 
 mul-eight : tie.Need-mul-eight Inv-loop μ-loop
 mul-eight c = let l = c .before .loop in omega (arith, l .inv .1, pow-mono {i = 8 * l .j} {j = 56} (omega arith))
@@ -84,9 +81,8 @@ loop-again c =
     let ds = bitsOf (now (a .lsd)) in (
       omega arith,
       rw (more, pow-add 2 (8 * l .j) 8) small,
-      λ bs.
-          rw (add-one (l .j), ← l .inv .2 bs, ← tail-bit (a .p) bs ds (a .o + l .j) (a .d) (omega arith))
-          (ap (λ (x : ℕ). l .eight * 256 + x) (bit-is c bs)),
+      rw (add-one (l .j), ← l .inv .2, ← tail-bit (a .p) ds (a .o + l .j) (a .d) (omega arith))
+          (ap (λ (x : ℕ). l .eight * 256 + x) (bit-is c)),
     )
 
 returns : tie.Need-returns Inv-loop μ-loop
@@ -94,9 +90,8 @@ returns c =
     let a = c .before .before .before .args in
     let l = c .before .loop in
     let e : l .j ≡ 8 = omega arith in
-    λ bs.
-    let f : ℕ → ℕ = λ (i : ℕ). tailAt (a .p) bs (drop (a .d) (bitsOf (now (a .lsd)))) (a .o + i) in
-    l .inv .2 bs ∙ ap (firsts f) e ∙ firsts-all f
+    let f : ℕ → ℕ = λ (i : ℕ). tailAt (a .p) [] (drop (a .d) (bitsOf (now (a .lsd)))) (a .o + i) in
+    l .inv .2 ∙ ap (firsts f) e ∙ firsts-all f
 
 pub cut-eight-spec : {M : Type 1} → statement M
 cut-eight-spec =

@@ -4,6 +4,7 @@ use mathlib.Core.Bool.{Bool, true, false, _||_}
 use Prim.Native.Nat.{ℕ, _+_, _-_, _*_, _/_, _^_, _<_, _≤_}
 use native.Mathlib.Nat.{lt-of-lt-of-le}
 use native.Mathlib.Omega.{arith}
+use borrow.Author.Tests.{eqb-false}
 use denote.Ref.{now}
 use lib.Dec.{eqb}
 use lib.ListN.{drop}
@@ -20,9 +21,10 @@ use Rattle.frame.proofs.heads.Tie as tie
 above : (n up all : ℕ) → n + up ≤ all → (2 ^ n - 1) * 2 ^ up < 2 ^ all
 above n up all h = lt-of-lt-of-le (shl-lt n up (ones-lt n)) (pow-mono h)
 
-or-none : (a b : Bool) → (a || b) ≡ false → a ≡ false
-or-none true b e = e
-or-none false b e = refl
+or-none : (a b : Bool) → (a || b) ≡ false → (a ≡ false) × (b ≡ false)
+or-none true true e = (e, e)
+or-none true false e = (e, refl)
+or-none false b e = (refl, e)
 
 cast-w : tie.Need-cast-w
 cast-w c = search needs
@@ -79,7 +81,8 @@ lay-requires c κs =
     let a = s .args in
     let ones : c .ones-above2 .result < 2 ^ (8 - a .p .width) =
     rw (c .ones-above2 .ensures) (above (7 - (a .p .width + a .p .columns)) (a .p .columns + 1) (8 - a .p .width) (omega arith)) in
-    ((s .pre .0, omega arith, omega arith, omega arith, ones), omega arith)
+    let some = eqb-false (a .p .width) 0 (or-none (a .mute) (eqb (a .p .width) 0) (c .before .before .if1 .left) .1) in
+    ((s .pre .0, omega arith, omega arith, omega (arith, some), omega arith, ones), omega arith)
 
 same-length-2 : tie.Need-same-length-2
 same-length-2 c = search needs
@@ -91,7 +94,7 @@ returns-2 c =
     let w = a .p .width in
     let i = a .v / 8 in
     let bits = bitsOf (now (a .voice)) in
-    let spoken = or-none (a .mute) (eqb w 0) (c .before .before .before .before .before .if1 .left) in
+    let spoken = or-none (a .mute) (eqb w 0) (c .before .before .before .before .before .if1 .left) .0 in
     λ k h.
     c .before .before .lay .ensures .1 k (omega arith) h
     ∙ ap (λ (x : ℕ). raisedBy w (8 - w) x (drop (8 * (i + (k - 0) * w)) bits)) (c .before .before .before .ones-above2 .ensures)

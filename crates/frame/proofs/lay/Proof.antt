@@ -10,7 +10,7 @@ use lib.ListN.{length, getD, drop, length-set}
 use lib.Seq.{getD-set-other}
 use Rattle.bits.specs.Bits.{bitsOf}
 use Rattle.frame.specs.Eight.{eights, fieldsOf, raisedBy}
-use Rattle.frame.proofs.WordLaws.{raised, raised-none, raised-lt}
+use Rattle.frame.proofs.WordLaws.{raised, raised-lt}
 use Rattle.frame.proofs.WrittenLaws.{one-laid}
 use borrow.Author.Needs.{needs}
 use Rattle.frame.proofs.lay.Statement.{statement}
@@ -35,23 +35,7 @@ abbrev μ-loop : tie.MeasureT-loop
 alike-requires : tie.Need-alike-requires Inv-loop μ-loop
 alike-requires c κs =
     let s = c .before .before in
-    lt-of-lt-of-le (s .pre .0 .4) (pow-mono {i = s .args .up} {j = 8} (omega arith))
-
-fill-eights-requires : tie.Need-fill-eights-requires Inv-loop μ-loop
-fill-eights-requires c κs = search needs
-
-same-length : tie.Need-same-length Inv-loop μ-loop
-same-length c = search needs
-
-returns : tie.Need-returns Inv-loop μ-loop
-returns c =
-    let a = c .before .before .before .before .before .before .before .before .args in
-    let call = c .before .before .fill-eights in (
-      call .ensures .0,
-      λ k f t.
-          call .ensures .1 k f t ∙ c .before .before .before .before .before .alike .ensures
-          ∙ raised-none (a .n) (a .up) (a .below) (drop (8 * (a .i + (k - a .from) * a .n)) (bitsOf (now (a .buffer)))) (omega arith),
-    )
+    lt-of-lt-of-le (s .pre .0 .5) (pow-mono {i = s .args .up} {j = 8} (omega arith))
 
 loop-holds : tie.Need-loop-holds Inv-loop μ-loop
 loop-holds c = (omega arith, omega arith, refl, λ j l. refl, λ j f l. absurd (omega arith))
@@ -61,19 +45,19 @@ sub-lane c = search needs
 
 mul-lane : tie.Need-mul-lane Inv-loop μ-loop
 mul-lane c =
-    let s = c .before .before .before .before .before .before in
+    let s = c .before .before .before .before .before in
     let a = s .args in
     omega (arith, s .pre .1, room (a .from) (a .to) (c .before .loop .k) (a .n) (omega arith) (omega arith))
 
 add-lane : tie.Need-add-lane Inv-loop μ-loop
 add-lane c =
-    let s = c .before .before .before .before .before .before in
+    let s = c .before .before .before .before .before in
     let a = s .args in
     omega (arith, s .pre .1, room (a .from) (a .to) (c .before .loop .k) (a .n) (omega arith) (omega arith))
 
 lane-requires : tie.Need-lane-requires Inv-loop μ-loop
 lane-requires c κs =
-    let s = c .before .before .before .before .before .before in
+    let s = c .before .before .before .before .before in
     let a = s .args in
     (omega arith, omega arith, omega (arith, s .pre .1, room (a .from) (a .to) (c .before .loop .k) (a .n) (omega arith) (omega arith)))
 
@@ -82,17 +66,17 @@ shl-lanes c = search needs
 
 -- no bit is shifted out
 value : (c : tie.After-lane Inv-loop μ-loop)
-    → (let a = c .before .before .before .before .before .before .before .args in
-    (c .lane .result * 2 ^ a .up % 2 ^ 64 + c .before .before .before .before .alike .result ≡ laidAt (now (a .buffer)) (a .from) (a .i) (a .n) (a .up) (a .below) (c .before .before .loop .k))
+    → (let a = c .before .before .before .before .before .before .args in
+    (c .lane .result * 2 ^ a .up % 2 ^ 64 + c .before .before .before .alike .result ≡ laidAt (now (a .buffer)) (a .from) (a .i) (a .n) (a .up) (a .below) (c .before .before .loop .k))
     × (laidAt (now (a .buffer)) (a .from) (a .i) (a .n) (a .up) (a .below) (c .before .before .loop .k) < 2 ^ 64))
 value c =
-    let s = c .before .before .before .before .before .before .before in
+    let s = c .before .before .before .before .before .before in
     let a = s .args in
     let bits = drop (8 * (a .i + (c .before .before .loop .k - a .from) * a .n)) (bitsOf (now (a .buffer))) in
-    let small = raised-lt (a .n) (a .up) (a .below) bits (omega arith) (s .pre .0 .4) in
+    let small = raised-lt (a .n) (a .up) (a .below) bits (omega arith) (s .pre .0 .5) in
     let sum = raised (a .n) (a .up) (a .below) bits in
     let up : eights (fieldsOf (a .n) bits) * 2 ^ a .up < 2 ^ 64 = omega (arith, sum, small) in
-    (rw (c .lane .ensures, c .before .before .before .before .alike .ensures, mod-eq-of-lt up) sum, small)
+    (rw (c .lane .ensures, c .before .before .before .alike .ensures, mod-eq-of-lt up) sum, small)
 
 add-lanes : tie.Need-add-lanes Inv-loop μ-loop
 add-lanes c = omega (arith, value c .0, value c .1)
@@ -111,9 +95,9 @@ loop-less c = search needs
 
 loop-again : tie.Need-loop-again Inv-loop μ-loop
 loop-again c =
-    let a = c .before .before .before .before .before .before .before .args in
+    let a = c .before .before .before .before .before .before .args in
     let l = c .before .before .loop in
-    let x = c .lane .result * 2 ^ a .up % 2 ^ 64 + c .before .before .before .before .alike .result in
+    let x = c .lane .result * 2 ^ a .up % 2 ^ 64 + c .before .before .before .alike .result in
     let inside : l .k < length (l .lanes) = omega arith in (
       omega arith,
       omega arith,
@@ -122,11 +106,11 @@ loop-again c =
       one-laid (l .lanes) (a .from) (l .k) x (laidAt (now (a .buffer)) (a .from) (a .i) (a .n) (a .up) (a .below)) inside (value c .0) (l .inv .4),
     )
 
-same-length-2 : tie.Need-same-length-2 Inv-loop μ-loop
-same-length-2 c = search needs
+same-length : tie.Need-same-length Inv-loop μ-loop
+same-length c = search needs
 
-returns-2 : tie.Need-returns-2 Inv-loop μ-loop
-returns-2 c =
+returns : tie.Need-returns Inv-loop μ-loop
+returns c =
     let l = c .before .loop in
     (l .inv .3, λ k f t. l .inv .4 k f (omega arith))
 
@@ -137,9 +121,6 @@ lay-spec =
     Inv-loop
     μ-loop
     alike-requires
-    fill-eights-requires
-    same-length
-    returns
     loop-holds
     sub-lane
     mul-lane
@@ -152,5 +133,5 @@ lay-spec =
     add-k
     loop-less
     loop-again
-    same-length-2
-    returns-2)
+    same-length
+    returns)

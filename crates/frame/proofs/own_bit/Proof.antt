@@ -18,7 +18,7 @@ add-if1 c = search needs
 returns : tie.Need-returns
 returns c =
     let a = c .before .before .before .before .args in
-    λ bs. rw (channel-before (a .p) (a .o + 1) (omega arith) (omega arith))
+    rw (channel-before (a .p) (a .o + 1) (omega arith) (omega arith))
 
 add-if2 : tie.Need-add-if2
 add-if2 c = search needs
@@ -26,7 +26,7 @@ add-if2 c = search needs
 returns-2 : tie.Need-returns-2
 returns-2 c =
     let a = c .before .before .before .before .before .args in
-    λ bs. rw (channel-past (a .p) (a .o + 1) (omega arith) (omega arith) (omega arith))
+    rw (channel-past (a .p) (a .o + 1) (omega arith) (omega arith) (omega arith))
 
 bit-at-requires : tie.Need-bit-at-requires
 bit-at-requires c κs = search needs
@@ -34,7 +34,7 @@ bit-at-requires c κs = search needs
 returns-3 : tie.Need-returns-3
 returns-3 c =
     let a = c .before .before .before .before .before .before .args in
-    λ bs. rw (channel-lsd (a .p) (a .o + 1) (omega arith) (omega arith) (omega arith)) (c .bit-at .ensures)
+    rw (channel-lsd (a .p) (a .o + 1) (omega arith) (omega arith) (omega arith)) (c .bit-at .ensures)
 
 pub own-bit-spec : {M : Type 1} → statement M
 own-bit-spec =

@@ -46,7 +46,7 @@ lay-requires c κs =
     let k = a .p .columns in
     let n : (a .b - a .a) * (k + 1) ≡ (a .b - a .a) * k + (a .b - a .a) = rw (mul-add (a .b - a .a) k 1, mul-one (a .b - a .a)) in
     let ordered : a .a ≤ a .b = omega (arith, s .pre .1 .0 .runs) in (
-      (s .pre .0 .0, ordered, omega arith, omega arith, omega arith),
+      (s .pre .0 .0, ordered, omega arith, omega arith, omega arith, omega arith),
       omega (arith, n, ordered, s .pre .1 .0 .after, columns-to k (a .a) (a .b) ordered, columns-le k (a .b) (omega arith) (omega arith)),
     )
 
@@ -60,7 +60,7 @@ returns c =
     let t : inEights (a .p) ≡ true = sym (c .before .before .before .before .before .in-eights .ensures) ∙ c .before .before .before .before .if1 .taken in
     let call = c .before .before .lay .ensures in (
       call .0,
-      λ bs k l m. call .1 k l m ∙ laid-owned (a .p) bs (bitsOf (now (a .lsd))) (a .a) (a .b) k (a .d) (s .pre .1 .0) (s .pre .1 .1 .2) t (s .pre .0 .1) (s .pre .0 .2) l m,
+      λ k l m. call .1 k l m ∙ laid-owned (a .p) (bitsOf (now (a .lsd))) (a .a) (a .b) k (a .d) (s .pre .1 .0) (s .pre .1 .1 .2) t (s .pre .0 .1) (s .pre .0 .2) l m,
     )
 
 cut-requires : tie.Need-cut-requires

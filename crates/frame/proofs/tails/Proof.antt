@@ -1,129 +1,127 @@
--- `frame::tails` meets its contract: a law for each run.
-use mathlib.Core.Path.{refl, _∙_}
-use Prim.Native.Nat.{_+_, _-_, _/_, _≤_}
+-- `frame::tails` meets its contract: the laws of the eights that have service bits, and of those that have none.
+use mathlib.Core.Path.{_≡_, _∙_}
+use Prim.Native.Nat.{_+_, _-_, _<_}
 use native.Mathlib.Omega.{arith}
 use denote.Ref.{now}
-use lib.ListN.{getD, drop}
+use lib.ListN.{length, getD, drop, set, length-set}
 use Rattle.bits.specs.Bits.{lowBits, bitsOf}
 use Rattle.frame.specs.Eight.{wordAt, tailAt}
-use Rattle.frame.proofs.TailLaws.{by-runs, columns-to, columns-le, laid-before, laid-after}
+use Rattle.frame.proofs.PartLaws.{eight-served, eight-unserved}
+use Rattle.frame.proofs.TailLaws.{served-first, served-second, tails-lt}
+use Rattle.frame.proofs.WrittenLaws.{two-set}
 use borrow.Author.Needs.{needs}
 use Rattle.frame.proofs.tails.Statement.{statement}
 use Rattle.frame.proofs.tails.Tie as tie
 
-cast-c : tie.Need-cast-c
-cast-c c = search needs
+first : (c : tie.After-spread)
+    → (let a = c .before .before .before .before .before .before .before .before .before .args in
+    getD (c .before .before .before .before .before .data-eights .last .0) 0 0 - c .before .before .alike .result + c .spread .result ≡ wordAt (tailAt (a .p) (lowBits 16 (a .service)) (drop (a .d) (bitsOf (now (a .lsd))))) 0)
+first c =
+    let a = c .before .before .before .before .before .before .before .before .before .args in
+    let small : a .service < 65536 = search needs in
+    rw (c .before .before .before .before .before .data-eights .ensures 0 (omega arith), c .before .before .alike .ensures, c .spread .ensures, served-first (a .service) small)
+    (eight-served (a .p) (lowBits 16 (a .service)) (drop (a .d) (bitsOf (now (a .lsd)))) 0 (omega arith) .1)
 
-cast-a : tie.Need-cast-a
-cast-a c = search needs
+second : (c : tie.After-spread2)
+    → (let a = c .before .before .before .before .before .before .before .before .before .before .before .args in
+    getD (c .before .before .before .before .before .before .before .data-eights .last .0) 1 0 - c .before .before .before .before .alike .result + c .spread2 .result ≡ wordAt (tailAt (a .p) (lowBits 16 (a .service)) (drop (a .d) (bitsOf (now (a .lsd))))) 1)
+second c =
+    let a = c .before .before .before .before .before .before .before .before .before .before .before .args in
+    rw (c .before .before .before .before .before .before .before .data-eights .ensures 1 (omega arith), c .before .before .before .before .alike .ensures, c .spread2 .ensures, served-second (a .service))
+    (eight-served (a .p) (lowBits 16 (a .service)) (drop (a .d) (bitsOf (now (a .lsd)))) 1 (omega arith) .1)
 
-sub-a : tie.Need-sub-a
-sub-a c = search needs
+data-eights-requires : tie.Need-data-eights-requires
+data-eights-requires c κs = search needs
 
-cast-b : tie.Need-cast-b
-cast-b c = search needs
+alike-requires : tie.Need-alike-requires
+alike-requires c κs = search needs
 
-add-b : tie.Need-add-b
-add-b c = search needs
+slice-read-first : tie.Need-slice-read-first
+slice-read-first c = search needs
 
-first-eights-requires : tie.Need-first-eights-requires
-first-eights-requires c κs = search needs
+sub-first : tie.Need-sub-first
+sub-first c =
+    let a = c .before .before .before .before .before .before .before .before .args in
+    rw (c .before .before .before .before .data-eights .ensures 0 (omega arith), c .before .alike .ensures)
+    (eight-served (a .p) (lowBits 16 (a .service)) (drop (a .d) (bitsOf (now (a .lsd)))) 0 (omega arith) .0)
 
-mul-lay : tie.Need-mul-lay
-mul-lay c = search needs
+cast-spread : tie.Need-cast-spread
+cast-spread c = search needs
 
-add-lay : tie.Need-add-lay
-add-lay c = search needs
+spread-requires : tie.Need-spread-requires
+spread-requires c κs = search needs
 
-lay-requires : tie.Need-lay-requires
-lay-requires c κs =
-    let s = c .before .before .before .before .before .before .before .before .before .before in
-    let p = s .args .p in
-    let a = (p .first - 1) / 8 in
-    let two : 2 ≤ a = omega (arith, s .pre .1 .0 .after) in
-    let ten : a ≤ 10 = omega (arith, s .pre .1 .0 .runs, s .pre .1 .0 .until) in (
-      (c .before .before .before .first-eights .kept .0 ∙ s .pre .0, two, ten, omega arith, omega arith),
-      omega (arith, columns-to (p .columns) 2 a two, columns-le (p .columns) a (omega arith) ten),
-    )
+add-first : tie.Need-add-first
+add-first c =
+    let s = c .before .before .before .before .before .before .before .before .before in
+    let a = s .args in
+    omega (arith, first c, tails-lt (a .p) (lowBits 16 (a .service)) (drop (a .d) (bitsOf (now (a .lsd)))) 0 (s .pre .1 .0))
 
-own-eights-requires : tie.Need-own-eights-requires
-own-eights-requires c κs = search needs
+slice-read-second : tie.Need-slice-read-second
+slice-read-second c = search needs
 
-mul-lay-2 : tie.Need-mul-lay-2
-mul-lay-2 c =
-    let s = c .before .before .before .before .before .before .before .before .before .before .before .before .before .before .before .before .before .before in
-    let p = s .args .p in
-    let b = (p .last + 7) / 8 in
-    omega (arith, columns-le (p .columns) b (omega arith) (omega arith))
+sub-second : tie.Need-sub-second
+sub-second c =
+    let a = c .before .before .before .before .before .before .before .before .before .before .args in
+    rw (c .before .before .before .before .before .before .data-eights .ensures 1 (omega arith), c .before .before .before .alike .ensures)
+    (eight-served (a .p) (lowBits 16 (a .service)) (drop (a .d) (bitsOf (now (a .lsd)))) 1 (omega arith) .0)
 
-add-lay-2 : tie.Need-add-lay-2
-add-lay-2 c =
-    let s = c .before .before .before .before .before .before .before .before .before .before .before .before .before .before .before .before .before .before in
-    let p = s .args .p in
-    let b = (p .last + 7) / 8 in
-    omega (arith, columns-le (p .columns) b (omega arith) (omega arith))
+cast-spread-2 : tie.Need-cast-spread-2
+cast-spread-2 c = search needs
 
-sub-lay : tie.Need-sub-lay
-sub-lay c = search needs
+spread-requires-2 : tie.Need-spread-requires-2
+spread-requires-2 c κs = search needs
 
-add-lay-3 : tie.Need-add-lay-3
-add-lay-3 c =
-    let s = c .before .before .before .before .before .before .before .before .before .before .before .before .before .before .before .before .before .before in
-    let p = s .args .p in
-    let b = (p .last + 7) / 8 in
-    omega (arith, columns-le (p .columns) b (omega arith) (omega arith))
+add-second : tie.Need-add-second
+add-second c =
+    let s = c .before .before .before .before .before .before .before .before .before .before .before in
+    let a = s .args in
+    omega (arith, second c, tails-lt (a .p) (lowBits 16 (a .service)) (drop (a .d) (bitsOf (now (a .lsd)))) 1 (s .pre .1 .0))
 
-lay-requires-2 : tie.Need-lay-requires-2
-lay-requires-2 c κs =
-    let s = c .before .before .before .before .before .before .before .before .before .before .before .before .before .before .before .before .before .before in
-    let p = s .args .p in
-    let b = (p .last + 7) / 8 in
-    let ten : b ≤ 10 = omega (arith, s .pre .1 .0 .until) in (
-      (c .before .before .before .own-eights .kept .0 ∙ c .before .before .before .before .before .before .before .lay .kept .0 ∙ c .before .before .before .before .before .before .before .before .before .before .before .first-eights .kept .0 ∙ s .pre .0, ten, omega arith, omega arith, omega arith),
-      omega (arith, s .pre .1 .0 .after, columns-to (p .columns) b 10 ten),
-    )
+slice-write-lanes : tie.Need-slice-write-lanes
+slice-write-lanes c = search needs
+
+slice-write-lanes-2 : tie.Need-slice-write-lanes-2
+slice-write-lanes-2 c =
+    let call = c .before .before .before .before .before .before .before .data-eights in
+    let l = call .last .0 in
+    let long : length l ≡ 10 = call .kept .0 ∙ c .before .before .before .before .before .before .before .before .before .before .before .pre .0 in
+    let inside : 1 < length (set l 0 (getD l 0 0 - c .before .before .before .before .alike .result + c .before .before .spread .result)) = rw length-set (omega (arith, long)) in
+    inside
 
 same-length : tie.Need-same-length
 same-length c = search needs
 
 returns : tie.Need-returns
 returns c =
-    let s = c .before .before .before .before .before .before .before .before .before .before .before .before .before .before .before .before .before .before .before .before .before in
-    let ok = s .pre .1 .0 in
-    let p = s .args .p in
-    let d = s .args .d in
-    let a = (p .first - 1) / 8 in
-    let b = (p .last + 7) / 8 in
-    let bs = lowBits 16 (s .args .service) in
-    let bits = bitsOf (now (s .args .lsd)) in
-    let first = c .before .before .before .before .before .before .before .before .before .before .before .before .before .before .first-eights .ensures in
-    let before = c .before .before .before .before .before .before .before .before .before .before .lay .ensures in
-    let own = c .before .before .before .before .before .before .own-eights .ensures in
-    let after = c .before .before .lay2 .ensures in
-    by-runs (λ k. getD (c .before .before .lay2 .last .0) k 0) (wordAt (tailAt p bs (drop d bits))) a b
-    (λ k l. after .0 k (omega (arith, ok .after, ok .runs)) ∙ own .0 k (omega (arith, ok .after)) ∙ before .0 k l ∙ first k l)
-    (λ k l m. after .0 k (omega (arith, ok .runs)) ∙ own .0 k m ∙ before .1 k l m ∙ laid-before p bs bits a k d ok (s .pre .1 .1 .2) refl l m)
-    (λ k l m. after .0 k m ∙ own .1 bs k l m)
-    (λ k l m. after .1 k l m ∙ laid-after p bs bits a b k d ok (s .pre .1 .1 .2) refl refl l)
+    let s = c .before .before .before .before .before .before .before .before .before .before .before in
+    let a = s .args in
+    let call = c .before .before .before .before .before .before .before .data-eights in
+    let l = call .last .0 in
+    let ones = c .before .before .before .before .alike .result in
+    let long : length l ≡ 10 = call .kept .0 ∙ s .pre .0 in
+    let bs = lowBits 16 (a .service) in
+    let ds = drop (a .d) (bitsOf (now (a .lsd))) in
+    two-set l 10 (getD l 0 0 - ones + c .before .before .spread .result) (getD l 1 0 - ones + c .spread2 .result) (wordAt (tailAt (a .p) bs ds)) (omega (arith, long))
+    (first (c .before .before)) (second c) (λ k h m. call .ensures k m ∙ eight-unserved (a .p) bs ds k h)
 
 pub tails-spec : {M : Type 1} → statement M
 tails-spec =
     tie.close
     (tie.spec
-    cast-c
-    cast-a
-    sub-a
-    cast-b
-    add-b
-    first-eights-requires
-    mul-lay
-    add-lay
-    lay-requires
-    own-eights-requires
-    mul-lay-2
-    add-lay-2
-    sub-lay
-    add-lay-3
-    lay-requires-2
+    data-eights-requires
+    alike-requires
+    slice-read-first
+    sub-first
+    cast-spread
+    spread-requires
+    add-first
+    slice-read-second
+    sub-second
+    cast-spread-2
+    spread-requires-2
+    add-second
+    slice-write-lanes
+    slice-write-lanes-2
     same-length
     returns)
