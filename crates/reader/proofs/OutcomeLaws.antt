@@ -105,8 +105,3 @@ read-settled s line voice lsd r q v w d e x y =
 pub look-read : (s : Reader) (line voice lsd : List ℕ) → length voice ≡ 140 → length lsd ≡ 156 → lookOf s line ≡ outcomeOf s line voice lsd
 unfolding lookOf outcomeOf
 look-read s line voice lsd v d = rw (v, d)
-
-pub look-taken : (s : Reader) (line : List ℕ) → stateInRange s ≡ true → length line ≡ 160
-    → (let p = stepOf s (signsOf line) in lookOf s line ≡ record { state = p .state; answer = Block (p .report) })
-unfolding lookOf
-look-taken s line r l = rw (takes s (length line) 140 156 (record { range = r; line-fits = l; voice-fits = refl; lsd-fits = refl }))

@@ -21,7 +21,7 @@ use Rattle.search.specs.Finding.{searchOf}
 use Rattle.search.specs.declared.Found.{Found}
 use Rattle.search.proofs.PlaceLaws.{found-fits}
 use Rattle.recording.specs.Refusals.{rulingOf}
-use Rattle.recording.specs.Walk.{leftFrom, blockAt, blockRead, foundAgain, answerHere, offBlock, meetsNone, answerBy, placeBy, readerBy, steppedBy, voiceBy, lsdBy, ruledBy, movedBy, answerAt, stepAt, ruledAt, lookAt, voiceAt, lsdAt, Ready}
+use Rattle.recording.specs.Walk.{leftFrom, blockAt, blockRead, foundAgain, answerHere, offBlock, meetsNone, answerBy, placeBy, readerBy, steppedBy, voiceBy, lsdBy, ruledBy, movedBy, answerAt, stepAt, ruledAt, lookAt, voiceAt, lsdAt}
 use Rattle.recording.specs.declared.Refusal.the-variants.{BadState, VoiceLength, DataLength, PastTheEnd}
 use Rattle.recording.specs.declared.Ruling.{Ruling}
 use Rattle.recording.specs.declared.Ruling.the-variants.{Refuse, Go}
@@ -144,7 +144,9 @@ module _ (b : Answer) (left place : ℕ) (recording : List ℕ) (s : Reader) whe
 
 -- ---- a step that no row refuses
 pub record Goes (all place : ℕ) (s : Reader) (voice lsd : ℕ) : Type 0 where
-  pub ready : Ready s voice lsd
+  pub range : stateInRange s ≡ true
+  pub heard : voice ≡ 140
+  pub given : lsd ≡ 156
   pub small : all ≤ 65536
   pub inside : place ≤ all
 
@@ -162,7 +164,9 @@ goes all place s voice lsd = go (stateInRange s) (eqb voice 140) (eqb lsd 156) (
     go true true true false true er ev ed en ee q = let z : _≡_ {A = ℕ} 0 1 = cc in absurd (omega arith)
     go true true true false false er ev ed en ee q =
         record {
-          ready = record { range = er; heard = eqb-true _ _ ev; given = eqb-true _ _ ed };
+          range = er;
+          heard = eqb-true _ _ ev;
+          given = eqb-true _ _ ed;
           small = ltb-false _ _ en;
           inside = ltb-false _ _ ee;
         }
@@ -170,8 +174,7 @@ goes all place s voice lsd = go (stateInRange s) (eqb voice 140) (eqb lsd 156) (
 pub rules-go : (all place : ℕ) (s : Reader) (voice lsd : ℕ) → Goes all place s voice lsd → rulingOf all place s voice lsd ≡ Go
 unfolding rulingOf
 rules-go all place s voice lsd g =
-    let k = g .ready in
-    rw (k .range, eq-eqb voice 140 (k .heard), eq-eqb lsd 156 (k .given), le-ltb 65536 all (g .small), le-ltb all place (g .inside))
+    rw (g .range, eq-eqb voice 140 (g .heard), eq-eqb lsd 156 (g .given), le-ltb 65536 all (g .small), le-ltb all place (g .inside))
 
 -- ---- a step that meets no block: it is refused, or no row is in the way
 pub off-here : (all place : ℕ) (lost : Bool) → meetsNone all place lost ≡ true → all ≤ 65536 → offBlock all place lost ≡ true

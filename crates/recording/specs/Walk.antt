@@ -1,11 +1,9 @@
 -- Document 01, 'Finding alignment': one step of a walk, which keeps a recording, a place in it, and whether the block before was lost.
-use mathlib.Core.Path.{_≡_}
 use mathlib.Core.Bool.{Bool, true, false, cond, _||_}
 use mathlib.Core.List.{List}
 use Prim.Native.Nat.{ℕ, _+_, _-_}
 use lib.Dec.{ltb}
 use lib.ListN.{length, take, drop}
-use Rattle.reader.specs.State.{stateInRange}
 use Rattle.reader.specs.Signs.{signsOf}
 use Rattle.reader.specs.Step as reading
 use Rattle.reader.specs.declared.Reader.{Reader}
@@ -150,11 +148,4 @@ ruledAt recording place lost s voice lsd =
 
 -- what a step leaves beside the buffers is the same for all buffers that fit, so it can be had without any
 unfoldable pub lookAt : List ℕ → ℕ → Bool → Reader → Stepped
-lookAt recording place lost s =
-    steppedBy (answerBy (rulingOf (length recording) place s 140 156) recording place lost s) recording place lost s
-
--- a reader's state in range, and buffers of the right lengths
-pub record Ready (s : Reader) (voice lsd : ℕ) : Type 0 where
-  pub range : stateInRange s ≡ true
-  pub heard : voice ≡ 140
-  pub given : lsd ≡ 156
+lookAt recording place lost s = ruledAt recording place lost s 140 156

@@ -191,7 +191,7 @@ fn lose(input: &mut ReadInput) {
 fn search_cases() -> Vec<Case> {
     let case = |name: &str, recording| Case { label: name.to_string(), work: Work::Search(vec![recording]) };
     vec![
-        case("zeros", vec![0; RECORDING_MAX]),
+        case("zeros", recordings::zeros(RECORDING_MAX)),
         case("random octets", recordings::without_place(RECORDING_MAX)),
         case("the first word every 7 octets", recordings::near_misses(RECORDING_MAX)),
     ]

@@ -1,5 +1,7 @@
 //! Recordings to search and to list.
 
+use std::hint::black_box;
+
 use model::vectors::random::Random;
 
 use crate::contestants::{self, Contestant};
@@ -8,6 +10,13 @@ use crate::inputs::CODE;
 
 /// The first bits of a block's SC that the search asks for.
 const WORD: [u8; 7] = [0, 0, 1, 1, 0, 1, 1];
+
+/// Zeros that were written: memory that never was is one page again and again, which no recording is.
+pub fn zeros(length: usize) -> Vec<u8> {
+    let mut recording = black_box(vec![1; length]);
+    recording.fill(0);
+    recording
+}
 
 /// Random octets; where alignment happens to stand, a bit is turned.
 pub fn without_place(length: usize) -> Vec<u8> {

@@ -14,7 +14,9 @@ returns c =
     let st = c .before .before in
     let a = st .args in
     c .look-from .ensures ∙ look-here (now (a .recording)) (a .place) (a .lost) (a .s) (record {
-      ready = record { range = st .pre .0; heard = refl; given = refl };
+      range = st .pre .0;
+      heard = refl;
+      given = refl;
       small = st .pre .1;
       inside = st .pre .2;
     })
