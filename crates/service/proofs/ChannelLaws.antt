@@ -7,9 +7,8 @@ use native.Mathlib.Nat.{add-zero, zero-add, suc-add, mul-one, lt-of-lt-of-le}
 use native.Mathlib.Omega.{arith}
 use lib.Pow.{pow-mono, high, low}
 use lib.ListN.{length, getD}
-use lib.Bits.{bitXor, xor-lt}
+use lib.Bits.{bitXor}
 use lib.Count.{onesIn, ones, ones-cat}
-use lib.Dec.{lit<}
 use Rattle.bits.specs.Bits.{odd, lowBits, octetBits, digit, number, xors}
 use Rattle.bits.proofs.BitLaws.{number-append, number-bound, number-fits, lowBits-xor, lowBits-back, lowBits-two}
 use Rattle.bas.specs.Words.{lineOrder}
@@ -86,15 +85,15 @@ unfolding number weight ones onesIn
 ones-number [] = refl
 ones-number (b ∷ bs) = ones-cat (length bs) (digit b) (number bs) (number-bound bs) ∙ ap₂ _+_ (ones-digit b) (ones-number bs)
 
+pub octet-weight : (octet : ℕ) → octet < 256 → ones octet ≡ weight (octetBits octet)
+octet-weight octet h = ap ones (sym (number-fits 8 octet h)) ∙ ones-number (octetBits octet)
+
 pub wrong-are : (line : List ℕ) (row one : ℕ) → row ≡ number (channelBits 8 1 line) → one ≡ digit (odd (getD line 81 0))
-    → ones (bitXor (row / 2 * 2 + one) 55) ≡ wrongBits line
+    → weight (octetBits (bitXor (row / 2 * 2 + one) 55)) ≡ wrongBits line
 unfolding wrongBits
 wrong-are line row one e f =
     let word = alignmentBits line in
-    let fits : number word < 256 = rw length-alignment at (number-bound word) in
-    ap (λ (x : ℕ). ones (bitXor x 55)) (alignment-number line row one e f)
-    ∙ ap ones (sym (number-fits 8 (bitXor (number word) 55) (xor-lt 8 (number word) 55 fits (lit< tt))))
-    ∙ ones-number (octetBits (bitXor (number word) 55))
+    ap (λ (x : ℕ). weight (octetBits (bitXor x 55))) (alignment-number line row one e f)
     ∙ ap weight (lowBits-xor 8 (number word) 55 ∙ ap₂ xors (lowBits-back 8 word (length-alignment line)) right-word)
 
 -- the BAS word, from its two octets

@@ -2,7 +2,8 @@
 ghost use mathlib.Core.Path.{_≡_};
 ghost use Prim.Native.Nat.{_≤_};
 ghost use lib.ListN.{getD};
-ghost use Rattle.bits.specs.Bits.{odd, digit, number};
+ghost use Rattle.bits.specs.Bits.{odd, octetBits, digit, number};
+ghost use Rattle.bas.specs.Reading.{weight};
 ghost use Rattle.service.specs.Service.{serviceRows};
 ghost use Rattle.service.specs.Channel.{channelBits, wrongBits, oddFirst, cBits, basWord};
 
@@ -76,12 +77,19 @@ fn row_at(line: &[u8], at: usize) -> u8
     ((fours | (fours >> 28)) % 256) as u8
 }
 
+// How many bits of an octet are 1.
+fn weight_of(octet: u8) -> u8
+    ensures { λ r. ⌜ r ≡ weight (octetBits octet) ⌝ }
+{
+    u8::count_ones(octet) as u8
+}
+
 // How many of the eight bits of a block's alignment word are wrong: 0011011 in the even frame and 1 in the odd one.
 pub fn wrong_bits(line: &[u8]) -> u8
     ensures { λ r. ⌜ r ≡ wrongBits (now (line .entry)) ⌝ }
 {
     let word = row_at(line, 1) / 2 * 2 + sc_bit(line, 81);
-    u8::count_ones(word ^ 0b0011_0111) as u8
+    weight_of(word ^ 0b0011_0111)
 }
 
 // The odd frame's first bit.

@@ -1,9 +1,5 @@
 -- `service::wrong_bits` meets its contract: the law of the alignment word, at what its callees ensure.
-use Prim.Native.Nat.{ℕ, _+_, _*_, _/_, _<_}
-use native.Mathlib.Omega.{arith}
-use lib.Bits.{bitXor, xor-lt}
-use lib.Count.{ones-le}
-use lib.Dec.{lit<}
+use mathlib.Core.Path.{_∙_}
 use Rattle.service.proofs.ChannelLaws.{wrong-are}
 use borrow.Author.Needs.{needs}
 use Rattle.service.proofs.wrong_bits.Statement.{statement}
@@ -21,14 +17,11 @@ sc-bit-requires c κs = search needs
 add-word : tie.Need-add-word
 add-word c = search needs
 
-cast-result : tie.Need-cast-result
-cast-result c =
-    let word : ℕ = c .before .row-at .result / 2 * 2 + c .sc-bit .result in
-    let fits : word < 256 = search needs in
-    omega (arith, ones-le 8 (bitXor word 55) (xor-lt 8 word 55 fits (lit< tt)))
+weight-of-requires : tie.Need-weight-of-requires
+weight-of-requires c κs = search needs
 
 returns : tie.Need-returns
-returns c = wrong-are _ _ _ (c .before .row-at .ensures) (c .sc-bit .ensures .0)
+returns c = c .weight-of .ensures ∙ wrong-are _ _ _ (c .before .before .row-at .ensures) (c .before .sc-bit .ensures .0)
 
 pub wrong-bits-spec : {M : Type 1} → statement M
-wrong-bits-spec = tie.close (tie.spec row-at-requires mul-word sc-bit-requires add-word cast-result returns)
+wrong-bits-spec = tie.close (tie.spec row-at-requires mul-word sc-bit-requires add-word weight-of-requires returns)
