@@ -28,7 +28,7 @@ use Rattle.sender.specs.declared.Outcome.{Outcome}
 use Rattle.sender.specs.declared.Answer.the-variants.{Sent}
 use Rattle.sender.proofs.RangeLaws.{stays-in-range}
 use Rattle.lesson.specs.Session.{Turn, turned, after, accepted, entryOf}
-use Rattle.lesson.specs.Demand2.{wordOf, LaidDown}
+use Rattle.lesson.specs.Demand2.{LaidDown}
 use Rattle.lesson.specs.NotEnough.{Program, Meets, Accepts, RefusesEverything, SendsOneBlock, WritesNothing, Repeats, NoneIsEnough, NoPlaceMadeUp}
 use Rattle.lesson.proofs.InStepLaws.{octets-laid-down}
 
@@ -86,24 +86,22 @@ second-sent = rw second-range
 -- ---- what an accepted call's block says
 module _ (s : Sender) (x : Turn) (taken : (turned s x) .outcome .answer ≡ Sent) where
   laid : LaidDown (entryOf s x)
-  laid = (rw taken at (octets-laid-down s (x ∷ []))) .1
+  laid = (rw taken at (octets-laid-down s (x ∷ []))) .2
 
-  says : wordOf (entryOf s x) < 256 → readingOf (basWord ((turned s x) .line)) ≡ Code (wordOf (entryOf s x))
-  says small = ap (λ (l : List ℕ). readingOf (basWord l)) laid ∙ code-back (s .mode) _ (x .call .mute) (x .voice) (x .lsd) small
+  says : x .call .code < 256 → readingOf (basWord ((turned s x) .line)) ≡ Code (x .call .code)
+  says small =
+      ap (λ (l : List ℕ). readingOf (basWord l)) (rw taken at laid) ∙ code-back (s .mode) _ (x .call .mute) (x .voice) (x .lsd) small
 
   aligned-line : wrongBits ((turned s x) .line) ≡ 0
   aligned-line = ap wrongBits laid ∙ right-alignment (s .mode) _ (x .call .mute) (x .voice) (x .lsd)
 
 first-says : readingOf (basWord ((turned fresh (offer 0x80)) .line)) ≡ Code 0x80
-unfolding ruleOf planBy
 first-says = says fresh (offer 0x80) first-sent (omega arith)
 
 other-says : readingOf (basWord ((turned fresh (offer 0x81)) .line)) ≡ Code 0x81
-unfolding ruleOf planBy
 other-says = says fresh (offer 0x81) other-sent (omega arith)
 
 second-says : readingOf (basWord ((turned second (offer 0x81)) .line)) ≡ Code 0x81
-unfolding second ruleOf planBy
 second-says = says second (offer 0x81) second-sent (omega arith)
 
 two-codes : Code 0x81 ≡ Code 0x80 → ⊥

@@ -12,11 +12,12 @@ use Rattle.modes.specs.Codes.{neutral, audioOff}
 use Rattle.modes.specs.Table.{audioTable, lsdTable, beside, audioPlaces, lsdPlaces}
 use Rattle.modes.specs.Owners.{holds, heldBy, some, clash, overlaps}
 use Rattle.modes.specs.Numbers.{following}
+use Rattle.modes.specs.Carried.{carried, senderCarries}
 use Rattle.modes.specs.Commands.{mode, inRange}
 use Rattle.sender.specs.State.{sounding, stateInRange, freshWith}
 use Rattle.sender.specs.Rules.{ruleOf}
 use Rattle.sender.specs.Plans.{planBy}
-use Rattle.sender.specs.Refusals.{verdictOf}
+use Rattle.sender.specs.Refusals.{clashes, verdictOf}
 use Rattle.sender.specs.Step.{blockFor, outcomeOf}
 use Rattle.sender.specs.declared.Sender.{Sender}
 use Rattle.sender.specs.declared.Answer.the-variants.{Sent, Held}
@@ -143,7 +144,7 @@ unfolding readerInRange inRange audioPlaces audioTable lsdPlaces lsdTable beside
 in-step-example = record { placed = record { range = refl; knows = refl; place = refl; due = refl; bits = refl }; mode = refl }
 
 agrees-example : Agrees seventh listening
-agrees-example = record { before = refl; remainder = refl }
+agrees-example = record { before = λ none. absurd (omega arith); remainder = refl }
 
 -- a code is eight bits
 eight-bits-example : EightBits (muted 0)
@@ -159,6 +160,13 @@ neutral-turn =
     }
 
 -- neutral can be offered where no item is due, and goes as the word
+seventh-range : stateInRange seventh ≡ true
+unfolding stateInRange inRange audioPlaces audioTable lsdPlaces lsdTable beside overlaps clash some holds heldBy
+seventh-range = refl
+
+neutral-sent : (turned seventh neutral-turn) .outcome .answer ≡ Sent
+unfolding turned outcomeOf verdictOf ruleOf planBy senderCarries carried clashes audioPlaces audioTable lsdPlaces lsdTable beside overlaps clash some holds heldBy
+neutral-sent = rw seventh-range
+
 neutral-example : wordOf (record { found = seventh; turn = neutral-turn }) ≡ neutral
-unfolding ruleOf planBy
-neutral-example = refl
+neutral-example = rw neutral-sent

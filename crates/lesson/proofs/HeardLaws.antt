@@ -9,20 +9,18 @@ use Rattle.bas.specs.declared.Word.the-variants.{Code}
 use Rattle.modes.specs.Codes.{audioOff}
 use Rattle.modes.specs.Table.{audioTable, beside, audioPlaces}
 use Rattle.modes.specs.Carried.{carried, readerCarries}
+use Rattle.modes.specs.Commands.{commandOf, offered}
 use Rattle.modes.specs.declared.Mode.{Mode}
 use Rattle.slots.specs.Readings.{readingIn}
 use Rattle.slots.specs.declared.Due.the-variants.{Plain, AnItem}
 use Rattle.slots.specs.declared.Reading.the-variants.{Mended}
-use Rattle.sender.specs.Plans.{planBy}
-use Rattle.sender.specs.declared.Sender.{Sender}
 use Rattle.sender.specs.declared.Rule.{Rule}
-use Rattle.sender.specs.declared.Rule.the-variants.{MuteOff}
 use Rattle.reader.specs.declared.Reader.{Reader}
 use Rattle.lesson.specs.Session.{after, Entry, log}
 use Rattle.lesson.specs.Demand2.{wordOf, readerAfter, Back, AllBack}
 use Rattle.lesson.specs.Demand3.{MuteGone, By, MuteHeard, HeardBy, MuteIsHeard}
 use Rattle.lesson.proofs.TurnLaws.{Stayed, Went, turn-cases}
-use Rattle.lesson.proofs.InStepLaws.{stays-in-step}
+use Rattle.lesson.proofs.InStepLaws.{goes-on, stays-in-step}
 use Rattle.lesson.proofs.MuteLaws.{mute-bound}
 
 -- the word "audio off", plain, is read as that command
@@ -31,13 +29,12 @@ unfolding readingIn readerCarries carried audioPlaces audioTable beside
 off-mended = refl
 
 word-off : (e : Entry) → MuteGone e → wordOf e ≡ audioOff
-unfolding planBy
-word-off e g = ap (λ (q : Rule). (planBy q (e .found) (e .turn .call .code)) .word) (g .own)
+word-off e g = rw (g .held, g .muted)
 
--- mute's rule turns the audio in force off
-off-planned : (s : Sender) (code : ℕ) → (planBy MuteOff s code) .mode .audio ≡ audioOff
-unfolding planBy
-off-planned s code = refl
+-- and turns the audio in force off
+off-offered : (m : Mode) → (offered (commandOf audioOff) m) .audio ≡ audioOff
+unfolding offered commandOf audioPlaces audioTable beside
+off-offered m = refl
 
 force-off : (e : Entry) → MuteGone e → after (e .found) (e .turn) .mode .audio ≡ audioOff
 force-off e g = go (turn-cases (e .found) (e .turn))
@@ -45,9 +42,9 @@ force-off e g = go (turn-cases (e .found) (e .turn))
     go : Stayed (e .found) (e .turn) ⊎ ((rule : Rule) × Went (e .found) (e .turn) rule) → after (e .found) (e .turn) .mode .audio ≡ audioOff
     go (inl k) = let both = sym (g .held) ∙ k .answer in let z : _≡_ {A = ℕ} 0 1 = cc in absurd (omega arith)
     go (inr (rule, w)) =
-        ap (λ (q : Sender). q .mode .audio) (w .state)
-        ∙ ap (λ (q : Rule). (planBy q (e .found) (e .turn .call .code)) .mode .audio) (w .goes .rule ∙ g .own)
-        ∙ off-planned (e .found) (e .turn .call .code)
+        ap (λ (m : Mode). m .audio) ((goes-on (e .found) (e .turn) rule w) .mode)
+        ∙ ap₂ (λ (t : Bool) (n : ℕ). (cond t (e .found .mode) (offered (commandOf n) (e .found .mode))) .audio) (g .command) (word-off e g)
+        ∙ off-offered (e .found .mode)
 
 heard : (e : Entry) (r : Reader) → MuteGone e → Back e r → MuteHeard e r
 heard e r g b =

@@ -39,6 +39,7 @@ use Rattle.sender.specs.Step.{headerFor, blockFor}
 use Rattle.sender.specs.declared.Sender.{Sender}
 use Rattle.sender.specs.declared.Plan.{Plan}
 use Rattle.sender.specs.declared.Rule.{Rule}
+use Rattle.sender.specs.declared.Answer.{Answer}
 use Rattle.sender.proofs.RangeLaws as sending
 use Rattle.reader.specs.State.{block, known, dueOf}
 use Rattle.reader.specs.Signs.{signsOf}
@@ -59,9 +60,10 @@ use Rattle.reader.proofs.RangeLaws.{due-back, step-in-range}
 use Rattle.sorter.specs.Sorting.{sortedOf}
 use Rattle.round.proofs.RoundLaws.{voice-bits-back, lsd-back}
 use Rattle.lesson.specs.Session.{Turn, after, Entry, log, blockSent, entryOf}
-use Rattle.lesson.specs.Demand2.{wordOf, LaidDown, GoesOn, BlockAfterBlock, OctetsLaidDown, wordDue, lastSix, KeptAsSent, Placed, InStep, Agrees, readerAfter, HandedBack, Back, AllBack, StaysInStep, JoinsAtNeutral}
+use Rattle.lesson.specs.Demand2.{wordTold, wordOf, Answered, LaidDown, GoesOn, BlockAfterBlock, OctetsLaidDown, wordDue, lastSix, KeptAsSent, Placed, InStep, Agrees, readerAfter, HandedBack, Back, AllBack, StaysInStep, JoinsAtNeutral}
 use Rattle.lesson.proofs.TurnLaws.{Stayed, Went, turn-cases, log-stayed, log-went}
-use Rattle.lesson.proofs.WordLaws.{rule-due, Sends, word-small, plan-mode, plan-due, mode-follows, due-after-same}
+use Rattle.lesson.proofs.RuleLaws.{rule-due, rule-answer, rule-word, rule-chosen}
+use Rattle.lesson.proofs.WordLaws.{Sends, word-small, plan-mode, plan-due, mode-follows, due-after-same}
 
 -- ---- the eight blocks of a multiframe
 pub each : (P : ℕ → Type 0) → P 1 → P 2 → P 3 → P 4 → P 5 → P 6 → P 7 → P 8 → (b : ℕ) → 1 ≤ b → b ≤ 8 → P b
@@ -148,7 +150,15 @@ module _ (s : Sender) (x : Turn) (rule : Rule) (w : Went s x rule) where
   item-is = ap goesAsItem (w .goes .rule) ∙ rule-due s (x .call .mute)
 
   word-is : wordOf entry ≡ plan .word
-  word-is = ap (λ (q : Rule). (planBy q s (x .call .code)) .word) (sym (w .goes .rule))
+  word-is =
+      ap (λ (a : Answer). wordTold a (x .call .mute) s (x .call .code)) (w .answer)
+      ∙ ap (λ (q : Rule). wordTold ((planBy q s (x .call .code)) .answer) (x .call .mute) s (x .call .code)) (w .goes .rule)
+      ∙ rule-word s (x .call)
+      ∙ ap (λ (q : Rule). (planBy q s (x .call .code)) .word) (sym (w .goes .rule))
+
+  answered : Answered entry
+  answered =
+      w .answer ∙ ap (λ (q : Rule). (planBy q s (x .call .code)) .answer) (w .goes .rule) ∙ rule-answer s (x .call)
 
   line-is : blockSent entry ≡ blockOf (s .mode) header (x .call .mute) (x .voice) (x .lsd)
   unfolding blockFor
@@ -160,7 +170,7 @@ module _ (s : Sender) (x : Turn) (rule : Rule) (w : Went s x rule) where
       line-is
       ∙ ap (λ (n : ℕ). blockOf (s .mode) (headerFor s (x .call) n) (x .call .mute) (x .voice) (x .lsd)) (sym word-is)
 
-  goes-on : GoesOn entry (after s x)
+  pub goes-on : GoesOn entry (after s x)
   goes-on =
       record {
         number = ap (λ (q : Sender). q .block) (w .state);
@@ -168,6 +178,9 @@ module _ (s : Sender) (x : Turn) (rule : Rule) (w : Went s x rule) where
         mode =
             ap (λ (q : Sender). q .mode) (w .state) ∙ plan-mode s (x .call .code) rule sends
             ∙ ap₂ (λ (b : Bool) (n : ℕ). cond b (s .mode) (offered (commandOf n) (s .mode))) item-is (sym word-is);
+        chosen =
+            ap (λ (q : Sender). q .chosen) (w .state)
+            ∙ ap (λ (q : Rule). (planBy q s (x .call .code)) .chosen) (w .goes .rule) ∙ rule-chosen s (x .call);
         due =
             ap (λ (q : Sender). q .due) (w .state) ∙ plan-due s (x .call .code) rule sends
             ∙ ap₂ (λ (b : Bool) (n : ℕ). cond b 0 (dueNumber (openingOf n))) item-is (sym word-is);
@@ -269,7 +282,7 @@ module _ (s : Sender) (x : Turn) (rule : Rule) (w : Went s x rule) where
     unfolding nextOf
     agrees-again =
         record {
-          before = ap (λ (q : Reader). q .before) next;
+          before = λ none. let one : _≡_ {A = ℕ} 1 0 = sym (ap (λ (q : Reader). q .before) next) ∙ none in absurd (omega arith);
           remainder = ap (λ (q : Reader). q .remainder) next ∙ sym (ap (λ (q : Sender). q .remainder) (w .state));
         }
 
@@ -289,7 +302,7 @@ module _ (s : Sender) (x : Turn) (rule : Rule) (w : Went s x rule) where
           read = read;
           word = reading-is ∙ ap (λ (k : ℕ). readingIn (wordDue s) (Code k)) (sym word-is);
           first = λ z. rw (eq-eqb (r .before) 0 z);
-          good = λ a. rw (a .before, eq-eqb (s .remainder) (r .remainder) (sym (a .remainder)));
+          good = λ a. rw (ne-eqb (r .before) 0 (a .before), eq-eqb (s .remainder) (r .remainder) (sym (a .remainder)));
           heard =
               t .1 ∙ ap₂ (λ (q : Standing) (m : Mode). voiceBy q m (blockSent entry)) standing same
               ∙ ap (sortedOf (s .mode) Voice 140) line-is
@@ -317,7 +330,7 @@ octets-laid-down s (x ∷ xs) = go (turn-cases s x) (octets-laid-down s xs) (oct
     go : Stayed s x ⊎ ((rule : Rule) × Went s x rule) → BlockAfterBlock s (log s xs) → BlockAfterBlock (after s x) (log (after s x) xs)
         → BlockAfterBlock s (log s (x ∷ xs))
     go (inl k) same next = rw (log-stayed s x xs k) same
-    go (inr (rule, w)) same next = rw (log-went s x xs rule w) (refl, laid-down s x rule w, goes-on s x rule w, next)
+    go (inr (rule, w)) same next = rw (log-went s x xs rule w) (refl, answered s x rule w, laid-down s x rule w, goes-on s x rule w, next)
 
 pub stays-in-step : StaysInStep
 stays-in-step s r [] bits st = tt

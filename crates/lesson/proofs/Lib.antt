@@ -1,4 +1,5 @@
 pub mod TurnLaws
+pub mod RuleLaws
 pub mod RefusalLaws
 pub mod WordLaws
 pub mod InStepLaws

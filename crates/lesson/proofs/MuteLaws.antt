@@ -91,7 +91,7 @@ mute-moves s x rule h m w = go (itemDue s) refl
     go false d =
         let own = mute-rule s (x .call .mute) d h m in
         let o : Went s x MuteOff = subst (λ (q : Rule). Went s x q) (w .goes .rule ∙ own) w in
-        inl (record { command = d; own = own; held = o .answer; octets = o .line })
+        inl (record { command = d; muted = m; held = o .answer; octets = o .line })
 
 pub mute-bound : MuteBound
 mute-bound s xs h m =

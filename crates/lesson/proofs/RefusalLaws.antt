@@ -33,36 +33,13 @@ use Rattle.recording.specs.declared.Refusal.the-variants.{BadState, VoiceLength
 use Rattle.recording.specs.declared.Ruling.{Ruling}
 use Rattle.recording.specs.declared.Ruling.the-variants.{Refuse, Go}
 use Rattle.recording.specs.declared.Answer.the-variants.{End}
-use Rattle.lesson.specs.Demand1.{smallest, plain, sendingRows, Sending, Reading, foundNumber, somewhere, Searching, Stepping, readNumber, ReadingPreset, writtenNumber, WritingPreset}
-
--- ---- the sender's rule says which rows look at the offered code
-plain-is : (s : Sender) (c : Call) → sender-list.goesPlain (ruleOf s (c .mute)) ≡ plain s c
-unfolding ruleOf
-plain-is s c = go (itemDue s) (c .mute) (sounding s) (choosing s)
-  where
-    go : (i m f k : Bool) → sender-list.goesPlain (cond i AsItem (cond (m && f) MuteOff (cond (not m && not f && k) Release Offered)))
-        ≡ (not (not i && (m && f || not m && not f && k)) && not i)
-    go true m f k = refl
-    go false true true k = refl
-    go false true false k = refl
-    go false false true k = refl
-    go false false false true = refl
-    go false false false false = refl
-
-item-is : (s : Sender) (c : Call) → sender-list.goesAsItem (ruleOf s (c .mute)) ≡ itemDue s
-unfolding ruleOf
-item-is s c = go (itemDue s) (c .mute && sounding s) (not (c .mute) && not (sounding s) && choosing s)
-  where
-    go : (i m r : Bool) → sender-list.goesAsItem (cond i AsItem (cond m MuteOff (cond r Release Offered))) ≡ i
-    go true m r = refl
-    go false true r = refl
-    go false false true = refl
-    go false false false = refl
+use Rattle.lesson.specs.Demand1.{smallest, sendingRows, Sending, Reading, foundNumber, somewhere, Searching, Stepping, readNumber, ReadingPreset, writtenNumber, WritingPreset}
+use Rattle.lesson.proofs.RuleLaws.{rule-due, rule-plain}
 
 sending-number : (s : Sender) (c : Call) (voice lsd line : List ℕ)
     → sender-list.refusalNumber s c (length line) (length voice) (length lsd) ≡ smallest (sendingRows s c voice lsd line)
 unfolding sender-list.refusalNumber
-sending-number s c voice lsd line = rw (plain-is s c, item-is s c)
+sending-number s c voice lsd line = rw (rule-plain s c, rule-due s (c .mute))
 
 -- a word that goes is no refusal
 not-refused : (rule : Rule) (s : Sender) (c : Call) (voice lsd : List ℕ)

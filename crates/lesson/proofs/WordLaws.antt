@@ -33,17 +33,6 @@ use Rattle.sender.specs.declared.Rule.{Rule}
 use Rattle.sender.specs.declared.Rule.the-variants.{AsItem, MuteOff, Release, Offered}
 use Rattle.sender.proofs.RangeLaws.{Kept, or-left, or-right}
 
--- an item goes exactly where one is due
-pub rule-due : (s : Sender) (mute : Bool) → goesAsItem (ruleOf s mute) ≡ itemDue s
-unfolding ruleOf
-rule-due s mute = go (itemDue s) (mute && sounding s) (not mute && not (sounding s) && choosing s)
-  where
-    go : (d m r : Bool) → goesAsItem (cond d AsItem (cond m MuteOff (cond r Release Offered))) ≡ d
-    go true m r = refl
-    go false true r = refl
-    go false false true = refl
-    go false false false = refl
-
 -- ---- what is known of a word that goes
 pub record Sends (s : Sender) (code : ℕ) (rule : Rule) : Type 0 where
   pub kept : Kept s

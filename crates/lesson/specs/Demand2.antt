@@ -9,11 +9,13 @@ use lib.ListN.{length, take, drop, replicate}
 use Rattle.bits.specs.Bits.{bitsOf, number, octets}
 use Rattle.bits.specs.Crc.{blockCrcOf}
 use Rattle.bas.specs.declared.Word.the-variants.{Code}
-use Rattle.modes.specs.Codes.{neutral, audioOff, lsdOff}
+use Rattle.modes.specs.Codes.{neutral, written, audioAttribute, audioOff, lsdOff}
 use Rattle.modes.specs.Numbers.{following}
 use Rattle.modes.specs.Carried.{openingOf}
 use Rattle.modes.specs.Commands.{mode, commandOf, offered}
 use Rattle.modes.specs.declared.Mode.{Mode}
+use Rattle.modes.specs.declared.Command.{Command}
+use Rattle.modes.specs.declared.Command.the-variants.{Neutral, SetAudio, SetLsd, NoEffect}
 use Rattle.modes.specs.declared.Owner.{Owner}
 use Rattle.modes.specs.declared.Owner.the-variants.{Voice, Lsd}
 use Rattle.slots.specs.Slots.{standing}
@@ -25,10 +27,11 @@ use Rattle.places.specs.Places.{places}
 use Rattle.frame.specs.Block.{blockOf}
 use Rattle.sender.specs.State as sending
 use Rattle.sender.specs.State.{itemDue}
-use Rattle.sender.specs.Rules.{ruleOf}
-use Rattle.sender.specs.Plans.{dueNumber, planBy}
+use Rattle.sender.specs.Plans.{dueNumber}
 use Rattle.sender.specs.Step.{headerFor}
 use Rattle.sender.specs.declared.Sender.{Sender}
+use Rattle.sender.specs.declared.Answer.{Answer}
+use Rattle.sender.specs.declared.Answer.the-variants.{Sent, Held, Refused}
 use Rattle.reader.specs.State.{unknown, known, slotOf, dueOf, stateInRange, freshIn}
 use Rattle.reader.specs.Signs.{signsOf}
 use Rattle.reader.specs.Step as reading
@@ -38,30 +41,55 @@ use Rattle.reader.specs.declared.Outcome.{Outcome}
 use Rattle.reader.specs.declared.Answer.the-variants.{Block}
 use Rattle.reader.specs.declared.Standing.the-variants.{Read}
 use Rattle.reader.specs.declared.Verdict.the-variants.{None, Good}
+use Rattle.lesson.specs.Demand1.{held, plain}
 use Rattle.lesson.specs.Session.{Turn, turned, after, accepted, Entry, log, blockSent, entryOf}
 
 -- ---- the octets
--- the word that an accepted call sends
+-- the answer to a call of the session
+abbrev pub answerTo : Entry → Answer
+answerTo e = (turned (e .found) (e .turn)) .outcome .answer
+
+-- where mute's "audio off" or the chosen command goes, the offered code is held and the answer says so; in all others it goes
+abbrev pub Answered : Entry → Type 0
+Answered e = answerTo e ≡ cond (held (e .found) (e .turn .call)) Held Sent
+
+-- the word that an answer says has gone: answered "sent", the offered code; answered "held", mute's "audio off" where mute is set in that
+-- call, else the chosen command. A refused call sends none, and no entry is refused
+abbrev pub wordTold : Answer → Bool → Sender → ℕ → ℕ
+wordTold Sent mute s code = code
+wordTold Held mute s code = written audioAttribute (cond mute audioOff (s .chosen))
+wordTold (Refused r) mute s code = 0
+
+-- the word of an accepted call
 abbrev pub wordOf : Entry → ℕ
-wordOf e = (planBy (ruleOf (e .found) (e .turn .call .mute)) (e .found) (e .turn .call .code)) .word
+wordOf e = wordTold (answerTo e) (e .turn .call .mute) (e .found) (e .turn .call .code)
 
 -- an accepted call writes the block that 01 lays down for its word, cut by the mode that the call finds
 abbrev pub LaidDown : Entry → Type 0
 LaidDown e =
     blockSent e ≡ blockOf (e .found .mode) (headerFor (e .found) (e .turn .call) (wordOf e)) (e .turn .call .mute) (e .turn .voice) (e .turn .lsd)
 
+-- what an offered command makes of the chosen audio
+abbrev pub chosenBy : Command → ℕ → ℕ
+chosenBy Neutral audio = audioOff
+chosenBy (SetAudio v) audio = v
+chosenBy (SetLsd v) audio = audio
+chosenBy NoEffect audio = audio
+
 -- what one accepted call leaves to the next: the next block's number, the remainder of the block that was written, and, unless the word
--- was an item, the mode and the item due by that word
+-- was an item, the mode and the item due by that word. Only an offered command that is neither held nor an item changes what is chosen
 pub record GoesOn (e : Entry) (s : Sender) : Type 0 where
   pub number : s .block ≡ following (e .found .block)
   pub remainder : s .remainder ≡ blockCrcOf (blockSent e)
   pub mode : s .mode ≡ cond (itemDue (e .found)) (e .found .mode) (offered (commandOf (wordOf e)) (e .found .mode))
+  pub chosen : s .chosen ≡ cond (plain (e .found) (e .turn .call)) (chosenBy (commandOf (e .turn .call .code)) (e .found .chosen)) (e .found .chosen)
   pub due : s .due ≡ cond (itemDue (e .found)) 0 (dueNumber (openingOf (wordOf e)))
 
--- block after block: each is laid down, and finds what the one before left
+-- block after block: each is answered by what went, is laid down, and finds what the one before left
 abbrev pub BlockAfterBlock : Sender → List Entry → Type 0
 BlockAfterBlock s [] = Unit {0}
-BlockAfterBlock s (e ∷ es) = (e .found ≡ s) × LaidDown e × GoesOn e (after s (e .turn)) × BlockAfterBlock (after s (e .turn)) es
+BlockAfterBlock s (e ∷ es) =
+    (e .found ≡ s) × Answered e × LaidDown e × GoesOn e (after s (e .turn)) × BlockAfterBlock (after s (e .turn)) es
 
 abbrev pub OctetsLaidDown : Type 0
 OctetsLaidDown = (s : Sender) (xs : List Turn) → BlockAfterBlock s (log s xs)
@@ -97,9 +125,9 @@ pub record InStep (s : Sender) (r : Reader) : Type 0 where
   pub placed : Placed s r
   pub mode : r .mode ≡ s .mode
 
--- the reader has a block before, and its remainder is the one that the sender goes on with
+-- the reader has a block before, which every number but 0 says, and its remainder is the one that the sender goes on with
 pub record Agrees (s : Sender) (r : Reader) : Type 0 where
-  pub before : r .before ≡ 1
+  pub before : r .before ≡ 0 → ⊥
   pub remainder : r .remainder ≡ s .remainder
 
 -- ---- what a reader in step hands back of a block that arrives unharmed

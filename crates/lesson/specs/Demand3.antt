@@ -7,16 +7,14 @@ use Prim.Native.Nat.{ℕ, zero, suc}
 use lib.ListN.{length}
 use Rattle.modes.specs.Codes.{written, audioAttribute, audioOff}
 use Rattle.sender.specs.State.{itemDue, sounding}
-use Rattle.sender.specs.Rules.{ruleOf}
 use Rattle.sender.specs.Step.{blockFor}
 use Rattle.sender.specs.declared.Sender.{Sender}
 use Rattle.sender.specs.declared.Call.{Call}
-use Rattle.sender.specs.declared.Rule.the-variants.{MuteOff}
 use Rattle.sender.specs.declared.Answer.the-variants.{Held}
 use Rattle.slots.specs.declared.Reading.the-variants.{Mended}
 use Rattle.reader.specs.declared.Reader.{Reader}
 use Rattle.reader.specs.declared.Outcome.{Outcome}
-use Rattle.lesson.specs.Demand2.{InStep, readerAfter, HandedBack, EightBits}
+use Rattle.lesson.specs.Demand2.{answerTo, InStep, readerAfter, HandedBack, EightBits}
 use Rattle.lesson.specs.Session.{Turn, Left, turned, after, Allowed, Entry, log}
 
 -- a block is silent when mute is set in its call or no audio is in force as that call finds it
@@ -46,12 +44,12 @@ abbrev pub MuteStaysSet : List Turn → Type 0
 MuteStaysSet [] = Unit {0}
 MuteStaysSet (x ∷ xs) = (x .call .mute ≡ true) × MuteStaysSet xs
 
--- mute's own "audio off" has gone out as a command, never as an item: none was due, it went by mute's rule, and the block that was
--- written is the one that demand 2 lays down for the word "audio off"
+-- mute's own "audio off" has gone out as a command, never as an item: none was due, mute was set, the offered code was held for it, and the
+-- block that was written is the one that demand 2 lays down for the word "audio off"
 pub record MuteGone (e : Entry) : Type 0 where
   pub command : itemDue (e .found) ≡ false
-  pub own : ruleOf (e .found) (e .turn .call .mute) ≡ MuteOff
-  pub held : (turned (e .found) (e .turn)) .outcome .answer ≡ Held
+  pub muted : e .turn .call .mute ≡ true
+  pub held : answerTo e ≡ Held
   pub octets : (turned (e .found) (e .turn)) .line
       ≡ blockFor (e .found) (e .turn .call) (written audioAttribute audioOff) (e .turn .voice) (e .turn .lsd)
 
