@@ -17,7 +17,6 @@ use Rattle.modes.specs.Carried.{carried, senderCarries, openingOf}
 use Rattle.modes.specs.Commands.{mode, inRange, commandOf, offered}
 use Rattle.service.specs.Channel.{channelBits, alignmentBits, wrongBits, basWord}
 use Rattle.round.proofs.HeaderLaws.{right-alignment, code-back}
-use Rattle.search.proofs.PlaceLaws.{found-fits}
 use Rattle.sender.specs.State.{stateInRange, freshWith}
 use Rattle.sender.specs.Rules.{ruleOf}
 use Rattle.sender.specs.Plans.{planBy}
@@ -31,6 +30,7 @@ use Rattle.lesson.specs.Session.{Turn, turned, after, accepted, entryOf}
 use Rattle.lesson.specs.Demand2.{LaidDown}
 use Rattle.lesson.specs.NotEnough.{Program, Meets, Accepts, RefusesEverything, SendsOneBlock, WritesNothing, Repeats, NoneIsEnough, NoPlaceMadeUp}
 use Rattle.lesson.proofs.InStepLaws.{octets-laid-down}
+use Rattle.lesson.proofs.RecordingLaws.{search-finds}
 
 -- a call with buffers of the right lengths that offers this code, with mute clear
 abbrev pub offer : ℕ → Turn
@@ -152,4 +152,4 @@ pub none-is-enough : NoneIsEnough
 none-is-enough p m = (not-refusing p m, not-constant p m, not-silent p m, not-repeating p m)
 
 pub no-place-made-up : NoPlaceMadeUp
-no-place-made-up find meets recording start p e = found-fits recording start p (sym (meets recording start) ∙ e) .0
+no-place-made-up find meets recording start p e = (search-finds recording start) .fits p (sym (meets recording start) ∙ e)

@@ -160,7 +160,7 @@ module _ (s : Sender) (x : Turn) (rule : Rule) (w : Went s x rule) where
   answered =
       w .answer ∙ ap (λ (q : Rule). (planBy q s (x .call .code)) .answer) (w .goes .rule) ∙ rule-answer s (x .call)
 
-  line-is : blockSent entry ≡ blockOf (s .mode) header (x .call .mute) (x .voice) (x .lsd)
+  pub line-is : blockSent entry ≡ blockOf (s .mode) header (x .call .mute) (x .voice) (x .lsd)
   unfolding blockFor
   line-is = w .line
 
@@ -208,7 +208,7 @@ module _ (s : Sender) (x : Turn) (rule : Rule) (w : Went s x rule) where
       ∙ code-back m header (x .call .mute) (x .voice) (x .lsd) (word-small s (x .call .code) rule sends small) in
       rw (wrong, c, first, code)
 
-  line-length : length (blockSent entry) ≡ 160
+  pub line-length : length (blockSent entry) ≡ 160
   unfolding blockOf
   line-length = ap length line-is ∙ length-octets 160 _
 

@@ -16,7 +16,6 @@ use Rattle.modes.specs.declared.BlockNumber.{BlockNumber}
 use Rattle.slots.specs.Slots.{standing}
 use Rattle.slots.specs.Readings.{obeyed}
 use Rattle.slots.specs.declared.Due.the-variants.{Plain, AnItem}
-use Rattle.sender.specs.State as sending
 use Rattle.sender.specs.State.{itemDue}
 use Rattle.sender.specs.declared.Sender.{Sender}
 use Rattle.sender.specs.declared.Rule.{Rule}

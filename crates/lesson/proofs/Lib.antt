@@ -4,6 +4,7 @@ pub mod RefusalLaws
 pub mod WordLaws
 pub mod InStepLaws
 pub mod JoinLaws
+pub mod RecordingLaws
 pub mod SilenceLaws
 pub mod MuteLaws
 pub mod HeardLaws

@@ -1,15 +1,13 @@
 -- Demand 1, call by call.
 use mathlib.Core.Path.{_≡_, refl, _∙_}
-use mathlib.Core.Bool.{Bool, true, false, not, cond, _&&_, _||_}
+use mathlib.Core.Bool.{Bool, true, false, not, cond, _||_}
 use mathlib.Core.List.{List, _∷_}
 use Prim.Native.Nat.{ℕ, zero, suc, _+_, _-_}
 use native.Mathlib.Omega.{arith}
 use lib.Dec.{eqb, ltb}
 use lib.ListN.{length, getD, drop, length-drop, drop-of-length-le}
 use lib.Seq.{drop-cons}
-use Rattle.sender.specs.State.{itemDue, sounding, choosing}
 use Rattle.sender.specs.State as sender
-use Rattle.sender.specs.Rules.{ruleOf}
 use Rattle.sender.specs.Plans.{planBy}
 use Rattle.sender.specs.Refusals as sender-list
 use Rattle.sender.specs.Step as sending

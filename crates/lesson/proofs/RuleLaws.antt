@@ -1,8 +1,6 @@
 -- By which rule a word goes: what the rule says of the answer, the word, the offered code and the chosen audio.
 use mathlib.Core.Path.{_≡_, refl}
 use mathlib.Core.Bool.{Bool, true, false, not, cond, _&&_, _||_}
-use Prim.Native.Nat.{ℕ}
-use Rattle.modes.specs.Codes.{audioOff}
 use Rattle.modes.specs.Commands.{commandOf, offered}
 use Rattle.modes.specs.declared.Command.{Command}
 use Rattle.modes.specs.declared.Command.the-variants.{Neutral, SetAudio, SetLsd, NoEffect}

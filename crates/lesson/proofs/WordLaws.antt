@@ -24,8 +24,6 @@ use Rattle.slots.specs.declared.Reading.{Reading}
 use Rattle.slots.specs.declared.Reading.the-variants.{Mended}
 use Rattle.slots.proofs.SlotLaws.{item-no-command}
 use Rattle.slots.proofs.RangeLaws.{audio-off-apart}
-use Rattle.sender.specs.State.{itemDue, sounding, choosing}
-use Rattle.sender.specs.Rules.{ruleOf}
 use Rattle.sender.specs.Plans.{dueNumber, planBy}
 use Rattle.sender.specs.Refusals.{isAudio, isLsd, clashes, goesPlain, goesAsItem}
 use Rattle.sender.specs.declared.Sender.{Sender}

@@ -4,12 +4,13 @@ use mathlib.Core.Bool.{true, false}
 use mathlib.Core.List.{List}
 use Prim.Native.Nat.{ℕ}
 use lib.ListN.{drop}
-use Rattle.search.specs.Finding.{aligned, searchOf}
+use Rattle.search.specs.Finding.{searchOf}
 use Rattle.search.specs.declared.Found.{Found}
 use Rattle.search.specs.declared.Found.the-variants.{Place}
 use Rattle.sender.specs.Step.{Told}
 use Rattle.sender.specs.declared.Sender.{Sender}
 use Rattle.lesson.specs.Session.{Turn, Left, accepted}
+use Rattle.lesson.specs.Recordings.{Aligned}
 
 -- any program that sends: what it leaves of a call
 abbrev pub Program : Type 0
@@ -40,7 +41,7 @@ Repeats p = (s : Sender) (x y : Turn) → Accepts p s x → Accepts p ((p s x) .
 abbrev pub NoneIsEnough : Type 0
 NoneIsEnough = (p : Program) → Meets p → (RefusesEverything p → ⊥) × (SendsOneBlock p → ⊥) × (WritesNothing p → ⊥) × (Repeats p → ⊥)
 
--- and a finder reporting a made-up place: whatever meets the contract of a search reports a place that fits
+-- and a finder reporting a made-up place: whatever meets the contract of a search reports a place where alignment stands
 abbrev pub NoPlaceMadeUp : Type 0
 NoPlaceMadeUp = (find : List ℕ → ℕ → Found) → ((recording : List ℕ) (start : ℕ) → find recording start ≡ searchOf recording start)
-    → (recording : List ℕ) (start p : ℕ) → find recording start ≡ Place p → aligned (drop p recording) ≡ true
+    → (recording : List ℕ) (start p : ℕ) → find recording start ≡ Place p → Aligned (drop p recording)

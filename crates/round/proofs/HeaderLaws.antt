@@ -97,12 +97,16 @@ module _ (m : Mode) (h : Header) (mute : Bool) (voice lsd : List ℕ) where
   odd-bits : channelBits 16 80 line ≡ odds ++ drop 8 word
   odd-bits = odd-back m h mute voice lsd ∙ ap (drop 16) service-rows ∙ drop-at (even ++ take 8 word) (odds ++ drop 8 word) 16 front-length
 
-  pub right-alignment : wrongBits line ≡ 0
-  unfolding wrongBits alignmentBits xors xor weight lowBits
-  right-alignment =
-      ap₂ (λ (x y : List Bool). weight (xors (x ++ y) (evenAlignment ++ (true ∷ []))))
+  pub alignment-back : alignmentBits line ≡ evenAlignment ++ (true ∷ [])
+  unfolding alignmentBits lowBits
+  alignment-back =
+      ap₂ _++_
       (channel-part 1 7 16 0 line (omega arith) ∙ ap (λ (l : List Bool). take 7 (drop 1 l)) even-bits)
       (channel-part 1 1 16 80 line (omega arith) ∙ ap (λ (l : List Bool). take 1 (drop 1 l)) odd-bits)
+
+  pub right-alignment : wrongBits line ≡ 0
+  unfolding wrongBits xors xor weight
+  right-alignment = ap (λ (l : List Bool). weight (xors l (evenAlignment ++ (true ∷ [])))) alignment-back
 
   pub first-bit-back : oddFirst line ≡ oddBit at
   unfolding oddFirst channelBits
