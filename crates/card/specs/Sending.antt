@@ -3,12 +3,11 @@ use mathlib.Core.Bool.{Bool, not}
 use mathlib.Core.List.{List}
 use Prim.Native.Nat.{ℕ}
 use lib.Dec.{eqb}
-use Rattle.sender.specs.Refusals.{numberOf}
+use Rattle.sender.specs.Refusals.{kindOf, numberIn}
 use Rattle.sender.specs.Step.{outcomeOf, lineOf}
 use Rattle.sender.specs.declared.Sender.{Sender}
 use Rattle.sender.specs.declared.Call.{Call}
 use Rattle.sender.specs.declared.Answer.{Answer}
-use Rattle.sender.specs.declared.Answer.the-variants.{Sent, Held, Refused}
 use Rattle.card.specs.declared.SendAnswer.{SendAnswer}
 use Rattle.card.specs.declared.SendStepped.{SendStepped}
 
@@ -19,11 +18,8 @@ on switch = not (eqb switch 0)
 abbrev pub callOf : ℕ → ℕ → ℕ → ℕ → ℕ → Call
 callOf mute code a e t = record { mute = on mute; code = code; a = on a; e = on e; t = on t }
 
--- kind 0 is sent, 1 held, 2 refused; the number is document 01's, 0 where nothing is refused
 abbrev pub sendAnswerOf : Answer → SendAnswer
-sendAnswerOf Sent = record { kind = 0; number = 0 }
-sendAnswerOf Held = record { kind = 1; number = 0 }
-sendAnswerOf (Refused r) = record { kind = 2; number = numberOf r }
+sendAnswerOf a = record { kind = kindOf a; number = numberIn a }
 
 -- the state and the answer that a call leaves, and what the lent line holds after it
 unfoldable pub sent : Sender → ℕ → ℕ → ℕ → ℕ → ℕ → List ℕ → List ℕ → List ℕ → SendStepped

@@ -2,28 +2,30 @@
 use mathlib.Core.Bool.{Bool, cond}
 use Prim.Native.Nat.{ℕ}
 use lib.Dec.{eqb}
-use Rattle.search.specs.Finding as finding
-use Rattle.search.specs.declared.Found as found
-use Rattle.recording.specs.Refusals.{numberOf}
+use Rattle.search.specs.Finding.{foundNumber, foundPlace}
+use Rattle.search.specs.declared.Found.{Found}
+use Rattle.recording.specs.Refusals.{kindOf, numberIn, valueIn}
 use Rattle.recording.specs.declared.Answer.{Answer}
 use Rattle.recording.specs.declared.Answer.the-variants.{Block, Place, End, Refused}
 use Rattle.recording.specs.declared.Stepped.{Stepped}
 use Rattle.card.specs.Reading.{blockAnswerOf, nothingRead}
+use Rattle.card.specs.declared.BlockAnswer.{BlockAnswer}
 use Rattle.card.specs.declared.SearchAnswer.{SearchAnswer}
 use Rattle.card.specs.declared.StepAnswer.{StepAnswer}
 use Rattle.card.specs.declared.StepOutcome.{StepOutcome}
 
--- the place found, or document 01's number of the refusal
-abbrev pub searchAnswerOf : found.Found → SearchAnswer
-searchAnswerOf (found.Found.Place p) = record { number = 0; place = p }
-searchAnswerOf (found.Found.Refused r) = record { number = finding.numberOf r; place = 0 }
+abbrev pub searchAnswerOf : Found → SearchAnswer
+searchAnswerOf f = record { number = foundNumber f; place = foundPlace f }
 
--- kind 0 is a block, 1 a place, 2 the end, 3 refused; the value is the place found or the octets left
+-- what an answer says of a block
+abbrev blockIn : Answer → BlockAnswer
+blockIn (Block report) = blockAnswerOf report
+blockIn (Place p) = nothingRead
+blockIn (End left) = nothingRead
+blockIn (Refused r) = nothingRead
+
 abbrev pub stepAnswerOf : Answer → StepAnswer
-stepAnswerOf (Block report) = record { kind = 0; number = 0; block = blockAnswerOf report; value = 0 }
-stepAnswerOf (Place p) = record { kind = 1; number = 0; block = nothingRead; value = p }
-stepAnswerOf (End left) = record { kind = 2; number = 0; block = nothingRead; value = left }
-stepAnswerOf (Refused r) = record { kind = 3; number = numberOf r; block = nothingRead; value = 0 }
+stepAnswerOf a = record { kind = kindOf a; number = numberIn a; block = blockIn a; value = valueIn a }
 
 -- the mark that a block was lost: 0 is no, every other number yes; one that stays set keeps its number
 abbrev pub markAfter : ℕ → Bool → ℕ

@@ -11,7 +11,7 @@ use Rattle.sender.specs.State as sender
 use Rattle.sender.specs.Plans.{planBy}
 use Rattle.sender.specs.Refusals as sender-list
 use Rattle.sender.specs.Step as sending
-use Rattle.sender.specs.Presets.{isPreset, presetRead, presetWritten}
+use Rattle.sender.specs.Presets.{isPreset, presetRead, presetWritten, presetNumber, writtenNumber}
 use Rattle.sender.specs.declared.Sender.{Sender}
 use Rattle.sender.specs.declared.Call.{Call}
 use Rattle.sender.specs.declared.Rule.{Rule}
@@ -31,7 +31,7 @@ use Rattle.recording.specs.declared.Refusal.the-variants.{BadState, VoiceLength
 use Rattle.recording.specs.declared.Ruling.{Ruling}
 use Rattle.recording.specs.declared.Ruling.the-variants.{Refuse, Go}
 use Rattle.recording.specs.declared.Answer.the-variants.{End}
-use Rattle.lesson.specs.Demand1.{smallest, sendingRows, Sending, Reading, foundNumber, somewhere, Searching, Stepping, readNumber, ReadingPreset, writtenNumber, WritingPreset}
+use Rattle.lesson.specs.Demand1.{smallest, sendingRows, Sending, Reading, somewhere, Searching, Stepping, ReadingPreset, WritingPreset}
 use Rattle.lesson.proofs.RuleLaws.{rule-due, rule-plain}
 
 sending-number : (s : Sender) (c : Call) (voice lsd line : List ℕ)
@@ -73,7 +73,7 @@ reading-refuses s line voice lsd r v d t =
 
 -- ---- the search goes through the places one by one, and so does the test for some place
 first-number : (n at : ℕ) (recording : List ℕ) → length recording - at ≡ n
-    → foundNumber (finding.firstOf n at recording) ≡ cond (not (somewhere (drop at recording))) 10 0
+    → finding.foundNumber (finding.firstOf n at recording) ≡ cond (not (somewhere (drop at recording))) 10 0
 unfolding finding.firstOf somewhere
 first-number zero at recording h = rw (drop-of-length-le recording {i = at} (omega arith))
 first-number (suc n) at recording h =
@@ -81,8 +81,8 @@ first-number (suc n) at recording h =
     rw (rw one at (drop-cons recording at 0 (omega arith)))
     (go (finding.aligned (getD recording at 0 ∷ drop (at + 1) recording)) (first-number n (at + 1) recording (omega arith)))
   where
-    go : (b : Bool) → foundNumber (finding.firstOf n (at + 1) recording) ≡ cond (not (somewhere (drop (at + 1) recording))) 10 0
-        → foundNumber (cond b (Found.Place at) (finding.firstOf n (at + 1) recording)) ≡ cond (not (b || somewhere (drop (at + 1) recording))) 10 0
+    go : (b : Bool) → finding.foundNumber (finding.firstOf n (at + 1) recording) ≡ cond (not (somewhere (drop (at + 1) recording))) 10 0
+        → finding.foundNumber (cond b (Found.Place at) (finding.firstOf n (at + 1) recording)) ≡ cond (not (b || somewhere (drop (at + 1) recording))) 10 0
     go true ih = refl
     go false ih = ih
 
@@ -96,7 +96,7 @@ searching-refuses recording start r e =
     }
   where
     go : (b : Bool)
-        → foundNumber (cond b (Found.Refused RecordingLength) (finding.firstOf (length recording - start) start recording))
+        → finding.foundNumber (cond b (Found.Refused RecordingLength) (finding.firstOf (length recording - start) start recording))
         ≡ cond b 9 (cond (not (somewhere (drop start recording))) 10 0)
     go true = refl
     go false = first-number (length recording - start) start recording refl
@@ -151,7 +151,7 @@ pub reading-preset-refuses : ReadingPreset
 unfolding presetRead
 reading-preset-refuses bits r e = record { ordered = refl; exact = rw e (go (isPreset bits) refl); kept = λ h. tt }
   where
-    go : (b : Bool) → isPreset bits ≡ b → readNumber ((presetRead bits) .answer) ≡ cond (not (isPreset bits)) 11 0
+    go : (b : Bool) → isPreset bits ≡ b → presetNumber ((presetRead bits) .answer) ≡ cond (not (isPreset bits)) 11 0
     go true p = rw p
     go false p = rw p
 

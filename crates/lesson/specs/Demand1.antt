@@ -12,12 +12,11 @@ use Rattle.sender.specs.State.{itemDue, sounding, choosing}
 use Rattle.sender.specs.State as sender
 use Rattle.sender.specs.Refusals as sender-list
 use Rattle.sender.specs.Step as sending
-use Rattle.sender.specs.Presets.{isPreset, presetRead, presetWritten}
+use Rattle.sender.specs.Presets.{isPreset, presetRead, presetWritten, presetNumber, writtenNumber}
 use Rattle.sender.specs.declared.Sender.{Sender}
 use Rattle.sender.specs.declared.Call.{Call}
 use Rattle.sender.specs.declared.Outcome as sent
 use Rattle.sender.specs.declared.PresetRead.{PresetRead}
-use Rattle.sender.specs.declared.PresetAnswer.{PresetAnswer}
 use Rattle.sender.specs.declared.PresetWritten.{PresetWritten}
 use Rattle.reader.specs.State as reader
 use Rattle.reader.specs.Refusals as reader-list
@@ -96,10 +95,6 @@ Reading = (s : Reader) (line voice lsd : List ℕ) (r : read.Outcome) (v d : Lis
     → Refuses (reader-list.numberIn (r .answer)) (readingRows s line voice lsd) ((r .state ≡ s) × (v ≡ voice) × (d ≡ lsd))
 
 -- ---- `search::search`: rows 9 and 10; it is lent nothing that it could change
-abbrev pub foundNumber : Found → ℕ
-foundNumber (Found.Place p) = 0
-foundNumber (Found.Refused r) = finding.numberOf r
-
 -- alignment stands at the first octet of this part of a recording, or at a later one
 unfoldable pub somewhere : List ℕ → Bool
 somewhere [] = false
@@ -114,7 +109,7 @@ searchingRows recording start =
 
 abbrev pub Searching : Type 0
 Searching = (recording : List ℕ) (start : ℕ) (r : Found) → r ≡ finding.searchOf recording start
-    → Refuses (foundNumber r) (searchingRows recording start) (Unit {0})
+    → Refuses (finding.foundNumber r) (searchingRows recording start) (Unit {0})
 
 -- ---- `recording::step`: rows 1, 3, 4 and 9
 abbrev pub steppingRows : List ℕ → ℕ → Reader → List ℕ → List ℕ → List Row
@@ -134,17 +129,9 @@ Stepping = (recording : List ℕ) (place : ℕ) (lost : Bool) (s : Reader) (voic
     ((r .reader ≡ s) × (r .place ≡ place) × (r .lost ≡ lost) × (v ≡ voice) × (d ≡ lsd))
 
 -- ---- `sender::read_preset`: row 11; `sender::write_preset`: row 1. Neither is lent anything or gives back a state that it took
-abbrev pub readNumber : PresetAnswer → ℕ
-readNumber PresetAnswer.Read = 0
-readNumber (PresetAnswer.Unread r) = sender-list.numberOf r
-
 abbrev pub ReadingPreset : Type 0
 ReadingPreset = (bits : ℕ) (r : PresetRead) → r ≡ presetRead bits
-    → Refuses (readNumber (r .answer)) (row 11 (not (isPreset bits)) ∷ []) (Unit {0})
-
-abbrev pub writtenNumber : PresetWritten → ℕ
-writtenNumber (PresetWritten.Bits b) = 0
-writtenNumber (PresetWritten.Unwritten r) = sender-list.numberOf r
+    → Refuses (presetNumber (r .answer)) (row 11 (not (isPreset bits)) ∷ []) (Unit {0})
 
 abbrev pub WritingPreset : Type 0
 WritingPreset = (s : Sender) (r : PresetWritten) → r ≡ presetWritten s

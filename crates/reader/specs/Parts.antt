@@ -18,7 +18,7 @@ use Rattle.reader.specs.declared.Reader.{Reader}
 use Rattle.reader.specs.declared.Signs.{Signs}
 use Rattle.reader.specs.declared.Place.{Place}
 use Rattle.reader.specs.declared.Standing.{Standing}
-use Rattle.reader.specs.declared.Standing.the-variants.{Waiting, Read}
+use Rattle.reader.specs.declared.Standing.the-variants.{Waiting, Read, Lost}
 use Rattle.reader.specs.declared.Verdict.{Verdict}
 use Rattle.reader.specs.declared.Verdict.the-variants.{None, Good, Bad}
 
@@ -44,9 +44,21 @@ keptAfter s wrong m = cond (eqb wrong 0) m (modeBefore s)
 abbrev pub verdictOf : Reader → ℕ → Verdict
 verdictOf s c = cond (eqb (s .before) 0) None (cond (eqb c (s .remainder)) Good Bad)
 
+-- what a verdict stands for, in the order of the listing's words: none, good, bad
+abbrev pub verdictNumber : Verdict → ℕ
+verdictNumber None = 0
+verdictNumber Good = 1
+verdictNumber Bad = 2
+
 -- ---- 3. streams and word
 abbrev pub standingOf : Reader → Standing
 standingOf s = cond (known s) Read Waiting
+
+-- what a block's standing stands for, in the order of the listing's words: waiting, read, lost
+abbrev pub standingNumber : Standing → ℕ
+standingNumber Waiting = 0
+standingNumber Read = 1
+standingNumber Lost = 2
 
 -- multiframe place known at entry: the word is read in its slot. Unknown: it is not read
 abbrev pub readingOf : Reader → Word → Reading

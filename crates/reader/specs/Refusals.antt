@@ -32,7 +32,11 @@ unfoldable pub refusalNumber : Reader → ℕ → ℕ → ℕ → ℕ
 refusalNumber s line voice lsd =
     cond (not (stateInRange s)) 1 (cond (not (eqb line 160)) 2 (cond (not (eqb voice 140)) 3 (cond (not (eqb lsd 156)) 4 0)))
 
--- the number that an answer stands for
+-- what an answer stands for: its kind, a block or refused; and the number of the refusal, 0 for a block
+abbrev pub kindOf : Answer → ℕ
+kindOf (Block report) = 0
+kindOf (Refused r) = 1
+
 abbrev pub numberIn : Answer → ℕ
 numberIn (Block report) = 0
 numberIn (Refused r) = numberOf r

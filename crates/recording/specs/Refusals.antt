@@ -28,9 +28,22 @@ rulingOf all place s voice lsd =
     (cond (ltb 65536 all || ltb all place) (Refuse PastTheEnd)
     Go)))
 
--- the number that an answer stands for, 0 where it is no refusal
+-- what an answer stands for: its kind, a block, a place, the end or refused; the number of the refusal, 0 where nothing is refused; and
+-- its value, the place found or the octets left, 0 for the other two
+abbrev pub kindOf : Answer → ℕ
+kindOf (Block report) = 0
+kindOf (Place p) = 1
+kindOf (End left) = 2
+kindOf (Refused r) = 3
+
 abbrev pub numberIn : Answer → ℕ
 numberIn (Block report) = 0
 numberIn (Place p) = 0
 numberIn (End left) = 0
 numberIn (Refused r) = numberOf r
+
+abbrev pub valueIn : Answer → ℕ
+valueIn (Block report) = 0
+valueIn (Place p) = p
+valueIn (End left) = left
+valueIn (Refused r) = 0

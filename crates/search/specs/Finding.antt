@@ -38,3 +38,12 @@ searchOf recording start =
 abbrev pub numberOf : Refusal → ℕ
 numberOf RecordingLength = 9
 numberOf NoPlace = 10
+
+-- what an answer stands for: the number of the refusal, 0 where a place is found; and that place, 0 where there is none
+abbrev pub foundNumber : Found → ℕ
+foundNumber (Place p) = 0
+foundNumber (Refused r) = numberOf r
+
+abbrev pub foundPlace : Found → ℕ
+foundPlace (Place p) = p
+foundPlace (Refused r) = 0

@@ -5,9 +5,11 @@ use lib.Dec.{eqb}
 use Rattle.modes.specs.Codes.{written, lsdAttribute, audioOff, lsdOff}
 use Rattle.modes.specs.Commands.{mode, inRange}
 use Rattle.sender.specs.State.{stateInRange, freshWith}
+use Rattle.sender.specs.Refusals.{numberOf}
 use Rattle.sender.specs.declared.Sender.{Sender}
 use Rattle.sender.specs.declared.Refusal.the-variants.{BadState, NotAPreset}
 use Rattle.sender.specs.declared.PresetRead.{PresetRead}
+use Rattle.sender.specs.declared.PresetAnswer.{PresetAnswer}
 use Rattle.sender.specs.declared.PresetAnswer.the-variants.{Read, Unread}
 use Rattle.sender.specs.declared.PresetWritten.{PresetWritten}
 use Rattle.sender.specs.declared.PresetWritten.the-variants.{Bits, Unwritten}
@@ -35,3 +37,16 @@ presetRead bits =
 -- writing one takes the chosen audio and the data in force
 unfoldable pub presetWritten : Sender → PresetWritten
 presetWritten s = cond (stateInRange s) (Bits (presetOf (s .chosen) (s .mode .lsd))) (Unwritten BadState)
+
+-- what an answer stands for: the number of the refusal, 0 where a preset is read or written; and the bits written, 0 where there are none
+abbrev pub presetNumber : PresetAnswer → ℕ
+presetNumber Read = 0
+presetNumber (Unread r) = numberOf r
+
+abbrev pub writtenNumber : PresetWritten → ℕ
+writtenNumber (Bits bits) = 0
+writtenNumber (Unwritten r) = numberOf r
+
+abbrev pub writtenBits : PresetWritten → ℕ
+writtenBits (Bits bits) = bits
+writtenBits (Unwritten r) = 0

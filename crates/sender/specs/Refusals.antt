@@ -101,7 +101,12 @@ firstNumber (r ∷ rs) = cond (r .given) (numberOf (r .refusal)) (firstNumber rs
 unfoldable pub refusalNumber : Sender → Call → ℕ → ℕ → ℕ → ℕ
 refusalNumber s c line voice lsd = firstNumber (rows s c line voice lsd)
 
--- the number that an answer stands for
+-- what an answer stands for: its kind, sent, held or refused; and the number of the refusal, 0 where nothing is refused
+abbrev pub kindOf : Answer → ℕ
+kindOf Sent = 0
+kindOf Held = 1
+kindOf (Refused r) = 2
+
 abbrev pub numberIn : Answer → ℕ
 numberIn Sent = 0
 numberIn Held = 0

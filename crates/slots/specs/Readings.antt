@@ -41,3 +41,23 @@ obeyed (ForbiddenItem code) m = m
 obeyed (NotFollowed code) m = m
 obeyed Unreadable m = m
 obeyed NotRead m = m
+
+-- what a reading stands for: its kind, in document 01's order: mended code, item, message word, forbidden item, not followed, unreadable,
+-- or not read; and the code that was read, 0 where there is none
+abbrev pub readingKind : Reading → ℕ
+readingKind (Mended code) = 0
+readingKind (Item code) = 1
+readingKind (MessageWord code) = 2
+readingKind (ForbiddenItem code) = 3
+readingKind (NotFollowed code) = 4
+readingKind Unreadable = 5
+readingKind NotRead = 6
+
+abbrev pub readingCode : Reading → ℕ
+readingCode (Mended code) = code
+readingCode (Item code) = code
+readingCode (MessageWord code) = code
+readingCode (ForbiddenItem code) = code
+readingCode (NotFollowed code) = code
+readingCode Unreadable = 0
+readingCode NotRead = 0
