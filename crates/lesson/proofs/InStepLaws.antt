@@ -156,7 +156,7 @@ module _ (s : Sender) (x : Turn) (rule : Rule) (w : Went s x rule) where
       ∙ rule-word s (x .call)
       ∙ ap (λ (q : Rule). (planBy q s (x .call .code)) .word) (sym (w .goes .rule))
 
-  answered : Answered entry
+  pub answered : Answered entry
   answered =
       w .answer ∙ ap (λ (q : Rule). (planBy q s (x .call .code)) .answer) (w .goes .rule) ∙ rule-answer s (x .call)
 

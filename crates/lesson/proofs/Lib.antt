@@ -8,6 +8,8 @@ pub mod RecordingLaws
 pub mod SilenceLaws
 pub mod MuteLaws
 pub mod HeardLaws
+pub mod EntryLaws
+pub mod LentLaws
 pub mod FigureLaws
 pub mod EnoughLaws
 pub mod QuietLaws

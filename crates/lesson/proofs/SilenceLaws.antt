@@ -77,7 +77,7 @@ left-is : (s : Sender) (x : Turn) (l : Left) → Told s (x .call) (x .voice) (x 
 unfolding turned
 left-is s x l h = λ i. record { outcome = h .outcome i; line = h .octets i }
 
-turn-told : (s : Sender) (x : Turn) → Told s (x .call) (x .voice) (x .lsd) (x .line) ((turned s x) .outcome) ((turned s x) .line)
+pub turn-told : (s : Sender) (x : Turn) → Told s (x .call) (x .voice) (x .lsd) (x .line) ((turned s x) .outcome) ((turned s x) .line)
 unfolding turned outcomeOf lineOf
 turn-told s x = go (judged s (x .call) (x .voice) (x .lsd) (x .line)) refl
   where

@@ -34,7 +34,7 @@ pub record Row : Type 0 where
   pub number : ℕ
   pub given : Bool
 
-abbrev row : ℕ → Bool → Row
+abbrev pub row : ℕ → Bool → Row
 row n b = record { number = n; given = b }
 
 -- smaller number first: the number of the first row that is given, 0 where none is

@@ -3,5 +3,7 @@ pub mod Demand1
 pub mod Demand2
 pub mod Recordings
 pub mod Demand3
+pub mod EntryPoints
+pub mod Lent
 pub mod Figures
 pub mod NotEnough

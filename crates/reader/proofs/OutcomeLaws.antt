@@ -69,7 +69,7 @@ number-is s line voice lsd = go (stateInRange s) (eqb (length line) 160) (eqb (l
     go true true true true = refl
 
 module _ (s : Reader) (line voice lsd : List ℕ) where
-  told : (r : Outcome) (v d : List ℕ) → r ≡ outcomeOf s line voice lsd → v ≡ voiceOf s line voice lsd → d ≡ lsdOf s line voice lsd
+  pub told : (r : Outcome) (v d : List ℕ) → r ≡ outcomeOf s line voice lsd → v ≡ voiceOf s line voice lsd → d ≡ lsdOf s line voice lsd
       → Told s line voice lsd r v d
   told r v d o e f = record { outcome = o; heard = e; given = f; number = rw o (number-is s line voice lsd) }
 
