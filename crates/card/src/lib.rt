@@ -448,7 +448,7 @@ pub extern "C" fn delampuk_step(
         × (now (voice .exit) ≡ voiceAt (now (recording .entry)) place (on lost) state (now (voice .entry)) (now (lsd .entry)))
         × (now (lsd .exit) ≡ lsdAt (now (recording .entry)) place (on lost) state (now (voice .entry)) (now (lsd .entry))) ⌝ }
 {
-    let stepped = recording::step(recording, place, is_on(lost), state, voice, lsd);
+    let stepped = walk::step_from(recording, place, is_on(lost), state, voice, lsd);
     let next = stepped.reader;
     let stands = stepped.place;
     let mark = mark_after(lost, stepped.lost);

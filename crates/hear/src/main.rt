@@ -5,19 +5,10 @@ use libc::STDIN_FILENO;
 use libc::STDOUT_FILENO;
 use modes::Mode;
 use modes::Owner;
-use reader::Reader;
 use reader::Standing;
 use recording::Answer;
+use recording::Stepped;
 use search::Found;
-
-// Where a walk stands: its place, whether the block before was lost, the reader, whether it is over, and whether all voice was written.
-struct Walk {
-    place: usize,
-    lost: bool,
-    reader: Reader,
-    over: bool,
-    open: bool,
-}
 
 fn tell(s: &[u8]) {
     io::write_all(STDERR_FILENO, s);
@@ -66,51 +57,39 @@ fn write_voice(mode: Mode, voice: &[u8]) -> bool {
     true
 }
 
-fn stepped(recording: &[u8], walk: Walk) -> Walk {
-    let mut voice = [0u8; 140];
-    let mut lsd = [0u8; 156];
-    let mut open = true;
-    let reader = walk.reader;
-    let mode = reader.mode;
-    let step = recording::step(
-        recording,
-        walk.place,
-        walk.lost,
-        reader,
-        &mut voice,
-        &mut lsd,
-    );
-    let answer = step.answer;
-    let next = step.reader;
-    if is_read(answer) {
-        open = write_voice(mode, &voice);
-    }
-    Walk {
-        place: step.place,
-        lost: step.lost,
-        reader: next,
-        over: is_last(answer),
-        open: open,
-    }
-}
-
-// Walks from a place on. A recording has more octets than a walk over it has steps. Whether all voice was written.
+// Walks from a place that was found, as after a step that answers it. A recording has more octets than a walk over it has steps. Whether
+// all voice was written.
 fn walked(recording: &[u8], start: usize) -> bool {
-    let reader = reader::fresh();
-    let mut walk = Walk {
+    let mut stepped = Stepped {
+        answer: Answer::Place(start),
+        reader: reader::fresh(),
         place: start,
         lost: false,
-        reader: reader,
-        over: false,
-        open: true,
     };
     for turn in 0..recording.len() {
-        walk = stepped(recording, walk);
-        if walk.over | !walk.open {
-            return walk.open;
+        let mut voice = [0u8; 140];
+        let mut lsd = [0u8; 156];
+        let reader = stepped.reader;
+        let mode = reader.mode;
+        stepped = walk::step_from(
+            recording,
+            stepped.place,
+            stepped.lost,
+            reader,
+            &mut voice,
+            &mut lsd,
+        );
+        let answer = stepped.answer;
+        if is_read(answer) {
+            if !write_voice(mode, &voice) {
+                return false;
+            }
+        }
+        if is_last(answer) {
+            return true;
         }
     }
-    walk.open
+    true
 }
 
 fn heard(recording: &[u8]) {
