@@ -1,9 +1,11 @@
--- A sending call in numbers is that of the sender: what `send_step` puts together, and that a refusal moves nothing.
+-- A sending call in numbers is that of the sender: what `send_step` puts together, that a refusal moves nothing, and that any two
+-- outcomes are equal.
 use mathlib.Core.Path.{_≡_, refl, ap, _∙_}
 use mathlib.Core.Bool.{Bool}
 use mathlib.Core.List.{List}
 use Prim.Native.Nat.{ℕ}
 use native.Mathlib.Omega.{arith}
+use Rattle.bits.proofs.Settled.{settled}
 use Rattle.sender.specs.Plans.{planBy}
 use Rattle.sender.specs.Step.{judged, outcomeBy, lineBy, outcomeOf, lineOf, Told}
 use Rattle.sender.specs.declared.Sender.{Sender}
@@ -43,3 +45,14 @@ module _ (s : Sender) (mute code a e t : ℕ) (voice lsd line : List ℕ) where
       → ((sent s mute code a e t voice lsd line) .state ≡ s) × (lineSent s mute code a e t voice lsd line ≡ line)
   unfolding sent lineSent outcomeOf lineOf
   refused-still refused = still-by (judged s (callOf mute code a e t) voice lsd line) s (callOf mute code a e t) voice lsd line refused
+
+  -- what the contract of `delampuk_send` says of its answer, and of the lent state and line at exit
+  abbrev pub SendTold : SendAnswer → Sender → List ℕ → Type 0
+  SendTold r n l =
+      (r ≡ (sent s mute code a e t voice lsd line) .answer)
+      × (n ≡ (sent s mute code a e t voice lsd line) .state)
+      × (l ≡ lineSent s mute code a e t voice lsd line)
+
+  -- any two outcomes that it allows are equal
+  pub delampuk-send-settled : (r q : SendAnswer) (n m : Sender) (l k : List ℕ) → SendTold r n l → SendTold q m k → (r ≡ q) × (n ≡ m) × (l ≡ k)
+  delampuk-send-settled r q n m l k x y = (settled (x .0) (y .0), settled (x .1) (y .1), settled (x .2) (y .2))

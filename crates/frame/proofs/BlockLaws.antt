@@ -7,6 +7,7 @@ use native.Mathlib.Omega.{arith}
 use lib.ListN.{length, getD, take, drop}
 use Rattle.bits.specs.Bits.{lowBits, octetBits, number, octets}
 use Rattle.bits.proofs.BitLaws.{lowBits-back, first-octet, second-octet}
+use Rattle.bits.proofs.Settled.{settled}
 use Rattle.bas.specs.Words.{wordBits, wordOf, lineOrder}
 use Rattle.bas.proofs.WordLaws.{length-wordBits, length-line}
 use Rattle.modes.specs.Numbers.{evenFrame, oddFrame}
@@ -61,10 +62,18 @@ unfolding blockOf places
 block-is m h mute voice lsd = ap (λ (ps : List Owner). octets 160 (fill (ps ++ ps) (sources h mute voice lsd))) (sym (rows-are m 80))
 
 -- ---- what a call tells, by whether its lengths fit
-pub told : (m : Mode) (h : Header) (mute : Bool) (voice lsd line : List ℕ) (b : Bool) → fitting (length line) (length voice) (length lsd) ≡ b
-    → (b ≡ fitting (length line) (length voice) (length lsd)) × (cond b (blockOf m h mute voice lsd) line ≡ lineAfter m h mute voice lsd line)
-unfolding lineAfter
-told m h mute voice lsd line b e = (sym e, ap (λ (t : Bool). cond t (blockOf m h mute voice lsd) line) (sym e))
+module _ (m : Mode) (h : Header) (mute : Bool) (voice lsd line : List ℕ) where
+  -- what the contract of `write_block` says
+  abbrev pub Told : Bool → List ℕ → Type 0
+  Told r l = (r ≡ fitting (length line) (length voice) (length lsd)) × (l ≡ lineAfter m h mute voice lsd line)
+
+  pub told : (b : Bool) → fitting (length line) (length voice) (length lsd) ≡ b → Told b (cond b (blockOf m h mute voice lsd) line)
+  unfolding lineAfter
+  told b e = (sym e, ap (λ (t : Bool). cond t (blockOf m h mute voice lsd) line) (sym e))
+
+  -- any two outcomes that it allows are equal
+  pub write-block-settled : (r q : Bool) (l k : List ℕ) → Told r l → Told q k → (r ≡ q) × (l ≡ k)
+  write-block-settled r q l k x y = (settled (x .0) (y .0), settled (x .1) (y .1))
 
 -- where the lengths fit, the line holds the block
 pub written-block : (m : Mode) (h : Header) (mute : Bool) (voice lsd line : List ℕ) → fitting (length line) (length voice) (length lsd) ≡ true

@@ -1,3 +1,4 @@
 pub mod SortLaws
 pub mod LaneLaws
 pub mod FillLaws
+pub mod HandLaws

@@ -1,4 +1,5 @@
--- Laws of writing over a buffer: its length stays, pieces one after the other are one piece, and what fits stands there whole.
+-- Laws of writing over a buffer: its length stays, pieces one after the other are one piece, what fits stands there whole, and nothing
+-- else could have been written.
 use mathlib.Core.Path.{_≡_, refl, sym, ap, _∙_}
 use mathlib.Core.List.{List, [], _∷_, _++_}
 use Prim.Native.Nat.{ℕ, zero, suc, _+_, _≤_, _<_}
@@ -99,3 +100,8 @@ written-then {at} {r} {s} {xs} {ys} {a} {b} {c} h k =
 -- a text from the front that fits stands there whole, and the rest of the buffer stays
 pub written-fits : {r : ℕ} {xs a b : List ℕ} → Written 0 xs a r b → r ≤ length a → (r ≡ length xs) × (b ≡ xs ++ drop (length xs) a)
 written-fits {r} {xs} {a} {b} h fits = (omega (arith, h .place, fits), h .octets ∙ overAt-fits xs a (omega (arith, h .place, fits)))
+
+-- any two outcomes are equal that a contract allows which says that this piece was written from this place on
+pub written-settled : (at : ℕ) (piece was : List ℕ) (r q : ℕ) (b c : List ℕ)
+    → Written at piece was r b → Written at piece was q c → (r ≡ q) × (b ≡ c)
+written-settled at piece was r q b c x y = (x .place ∙ sym (y .place), x .octets ∙ sym (y .octets))

@@ -3,7 +3,7 @@ use borrow.Author.Needs.{needs}
 use borrow.Author.Tests.{not-true, not-false}
 use native.Mathlib.Omega.{arith}
 use mathlib.Core.Path.{_≡_, sym, subst, _∙_}
-use mathlib.Core.Bool.{Bool, true, false}
+use mathlib.Core.Bool.{true}
 use mathlib.Core.List.{List, _++_}
 use Prim.Native.Nat.{ℕ}
 use denote.Ref.{now}
@@ -18,24 +18,10 @@ use Rattle.places.specs.Layout.{Apart, layoutOf, rowsBy}
 use Rattle.places.specs.declared.Layout.{Layout}
 use Rattle.places.proofs.LayoutLaws.{rows-are, apart-of}
 use Rattle.places.proofs.LengthLaws.{lengths}
-use Rattle.sorter.specs.Sorting.{sortedOf, voiceAfter, lsdAfter}
+use Rattle.sorter.specs.Sorting.{sortedOf}
+use Rattle.sorter.proofs.HandLaws.{left-alone, sorted-out}
 use Rattle.sorter.proofs.hand_out.Statement.{statement}
 use Rattle.sorter.proofs.hand_out.Tie as tie
-
--- the contract's three parts
-Handed : Bool → Mode → List ℕ → List ℕ → List ℕ → List ℕ → List ℕ → Type 0
-Handed r m line voice lsd voice₁ lsd₁ =
-    (r ≡ fitting (length line) (length voice) (length lsd)) × (voice₁ ≡ voiceAfter m line voice lsd) × (lsd₁ ≡ lsdAfter m line voice lsd)
-
-left-alone : (m : Mode) (line voice lsd : List ℕ) → fitting (length line) (length voice) (length lsd) ≡ false
-    → Handed false m line voice lsd voice lsd
-unfolding Handed voiceAfter lsdAfter
-left-alone m line voice lsd e = (sym e, rw e, rw e)
-
-written : (m : Mode) (line voice lsd voice₁ lsd₁ : List ℕ) → fitting (length line) (length voice) (length lsd) ≡ true
-    → voice₁ ≡ sortedOf m Voice 140 line → lsd₁ ≡ sortedOf m Lsd 156 line → Handed true m line voice lsd voice₁ lsd₁
-unfolding Handed voiceAfter lsdAfter
-written m line voice lsd voice₁ lsd₁ e v d = (sym e, rw e v, rw e d)
 
 -- sorting by the layout is sorting by the rule of owners
 by-owner : (m : Mode) (p : Layout) (o : Owner) (n k : ℕ) (line buf : List ℕ) → p ≡ layoutOf m → n ≡ k
@@ -50,7 +36,6 @@ lengths-fit-requires : tie.Need-lengths-fit-requires
 lengths-fit-requires c κs = search needs
 
 returns : tie.Need-returns
-unfolding Handed
 returns c =
     let a = c .before .before .before .before .before .args in
     left-alone (a .mode) (now (a .line)) (now (a .voice)) (now (a .lsd)) (sym (c .before .lengths-fit .ensures) ∙ not-true _ (c .if1 .taken))
@@ -81,14 +66,13 @@ same-length-2 : tie.Need-same-length-2
 same-length-2 c = search needs
 
 returns-2 : tie.Need-returns-2
-unfolding Handed
 returns-2 c =
     let a = c .before .before .before .before .before .before .before .before .before .before .before .before .before .before .args in
     let l = c .before .before .before .before .before .before .before .before .layout-of in
     let yes : fitting (length (now (a .line))) (length (now (a .voice))) (length (now (a .lsd))) ≡ true =
     sym (c .before .before .before .before .before .before .before .before .before .before .lengths-fit .ensures) ∙ not-false _ (c .before .before .before .before .before .before .before .before .before .if1 .left) in
     let fit = lengths _ _ _ yes in
-    written (a .mode) (now (a .line)) (now (a .voice)) (now (a .lsd)) _ _ yes
+    sorted-out (a .mode) (now (a .line)) (now (a .voice)) (now (a .lsd)) _ _ yes
     (by-owner (a .mode) (l .result) Voice _ 140 (now (a .line)) _ (l .ensures) (fit .1) (c .before .before .before .before .before .before .sort-voice .ensures))
     (by-owner (a .mode) (l .result) Lsd _ 156 (now (a .line)) _ (l .ensures) (fit .2) (c .before .before .sort-lsd .ensures))
 
