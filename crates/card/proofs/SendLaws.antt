@@ -14,7 +14,7 @@ use Rattle.sender.specs.declared.Outcome.{Outcome}
 use Rattle.sender.specs.declared.Rule.the-variants.{AsItem, MuteOff, Release, Offered}
 use Rattle.sender.specs.declared.Verdict.{Verdict}
 use Rattle.sender.specs.declared.Verdict.the-variants.{Refuse, Goes}
-use Rattle.card.specs.Sending.{on, callOf, sendAnswerOf, sent, lineSent}
+use Rattle.card.specs.Sending.{on, callOf, sendAnswerOf, sent, lineSent, SendTold}
 use Rattle.card.specs.declared.SendAnswer.{SendAnswer}
 
 -- a verdict whose answer has kind 2 is a refusal, which leaves the state and the line
@@ -46,13 +46,7 @@ module _ (s : Sender) (mute code a e t : ℕ) (voice lsd line : List ℕ) where
   unfolding sent lineSent outcomeOf lineOf
   refused-still refused = still-by (judged s (callOf mute code a e t) voice lsd line) s (callOf mute code a e t) voice lsd line refused
 
-  -- what the contract of `delampuk_send` says of its answer, and of the lent state and line at exit
-  abbrev pub SendTold : SendAnswer → Sender → List ℕ → Type 0
-  SendTold r n l =
-      (r ≡ (sent s mute code a e t voice lsd line) .answer)
-      × (n ≡ (sent s mute code a e t voice lsd line) .state)
-      × (l ≡ lineSent s mute code a e t voice lsd line)
-
-  -- any two outcomes that it allows are equal
-  pub delampuk-send-settled : (r q : SendAnswer) (n m : Sender) (l k : List ℕ) → SendTold r n l → SendTold q m k → (r ≡ q) × (n ≡ m) × (l ≡ k)
+  -- any two outcomes that the contract of `delampuk_send` allows are equal
+  pub delampuk-send-settled : (r q : SendAnswer) (n m : Sender) (l k : List ℕ)
+      → SendTold s mute code a e t voice lsd line r n l → SendTold s mute code a e t voice lsd line q m k → (r ≡ q) × (n ≡ m) × (l ≡ k)
   delampuk-send-settled r q n m l k x y = (settled (x .0) (y .0), settled (x .1) (y .1), settled (x .2) (y .2))

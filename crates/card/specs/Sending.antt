@@ -1,4 +1,5 @@
 -- Document 01, 'Sending a block', last paragraph: one sending call in the numbers that cross to C.
+use mathlib.Core.Path.{_≡_}
 use mathlib.Core.Bool.{Bool, not}
 use mathlib.Core.List.{List}
 use Prim.Native.Nat.{ℕ}
@@ -29,3 +30,10 @@ sent s mute code a e t voice lsd line =
 
 unfoldable pub lineSent : Sender → ℕ → ℕ → ℕ → ℕ → ℕ → List ℕ → List ℕ → List ℕ → List ℕ
 lineSent s mute code a e t voice lsd line = lineOf s (callOf mute code a e t) voice lsd line
+
+-- all that the contract of `delampuk_send` says of its answer `r`, and of the lent state `n` and the line `l` at exit
+abbrev pub SendTold : Sender → ℕ → ℕ → ℕ → ℕ → ℕ → List ℕ → List ℕ → List ℕ → SendAnswer → Sender → List ℕ → Type 0
+SendTold s mute code a e t voice lsd line r n l =
+    (r ≡ (sent s mute code a e t voice lsd line) .answer)
+    × (n ≡ (sent s mute code a e t voice lsd line) .state)
+    × (l ≡ lineSent s mute code a e t voice lsd line)

@@ -9,13 +9,11 @@ ghost use Rattle.sender.specs.State.{freshWith};
 ghost use Rattle.sender.specs.Presets.{presetRead, presetWritten, presetNumber};
 ghost use Rattle.reader.specs.State.{freshIn};
 ghost use Rattle.reader.specs.Parts.{standingNumber, verdictNumber};
-ghost use Rattle.reader.specs.Step.{outcomeOf, voiceOf, lsdOf};
-ghost use Rattle.recording.specs.Walk.{stepAt, voiceAt, lsdAt};
 ghost use Rattle.text.specs.Over.{Written};
 ghost use Rattle.lines.specs.Listing.{listingOf};
 ghost use Rattle.card.specs.Sending.{on, sendAnswerOf, sent, lineSent};
-ghost use Rattle.card.specs.Reading.{blockAnswerOf, nothingRead, readAnswerOf, readOutcomeOf};
-ghost use Rattle.card.specs.Walking.{searchAnswerOf, stepAnswerOf, markAfter, stepOutcomeOf};
+ghost use Rattle.card.specs.Reading.{blockAnswerOf, nothingRead, readAnswerOf, ReadTold};
+ghost use Rattle.card.specs.Walking.{searchAnswerOf, stepAnswerOf, markAfter, StepTold};
 ghost use Rattle.card.specs.Presets.{presetOutcomeOf, presetBitsOf};
 use reader::Reader;
 use sender::Call;
@@ -348,9 +346,7 @@ pub extern "C" fn delampuk_read(
     voice: &mut [u8],
     lsd: &mut [u8],
 ) -> ReadOutcome
-    ensures { λ r. ⌜ (r ≡ readOutcomeOf (outcomeOf state (now (line .entry)) (now (voice .entry)) (now (lsd .entry))))
-        × (now (voice .exit) ≡ voiceOf state (now (line .entry)) (now (voice .entry)) (now (lsd .entry)))
-        × (now (lsd .exit) ≡ lsdOf state (now (line .entry)) (now (voice .entry)) (now (lsd .entry))) ⌝ }
+    ensures { λ r. ⌜ ReadTold state (now (line .entry)) (now (voice .entry)) (now (lsd .entry)) r (now (voice .exit)) (now (lsd .exit)) ⌝ }
 {
     let outcome = reader::read(state, line, voice, lsd);
     let next = outcome.state;
@@ -444,9 +440,7 @@ pub extern "C" fn delampuk_step(
     voice: &mut [u8],
     lsd: &mut [u8],
 ) -> StepOutcome
-    ensures { λ r. ⌜ (r ≡ stepOutcomeOf lost (stepAt (now (recording .entry)) place (on lost) state (now (voice .entry)) (now (lsd .entry))))
-        × (now (voice .exit) ≡ voiceAt (now (recording .entry)) place (on lost) state (now (voice .entry)) (now (lsd .entry)))
-        × (now (lsd .exit) ≡ lsdAt (now (recording .entry)) place (on lost) state (now (voice .entry)) (now (lsd .entry))) ⌝ }
+    ensures { λ r. ⌜ StepTold (now (recording .entry)) place lost state (now (voice .entry)) (now (lsd .entry)) r (now (voice .exit)) (now (lsd .exit)) ⌝ }
 {
     let stepped = walk::step_from(recording, place, is_on(lost), state, voice, lsd);
     let next = stepped.reader;

@@ -1,15 +1,14 @@
 -- Demand 1 of the other entry points, each from the call that it is thin over.
 use mathlib.Core.Path.{_≡_, refl, sym, ap, _∙_}
 use mathlib.Core.Bool.{Bool, true, false, not, cond, false≢true}
-use mathlib.Core.List.{List, [], _∷_, _++_}
+use mathlib.Core.List.{List, _++_}
 use mathlib.Core.Logic.{_⊎_, inl, inr}
-use Prim.Native.Nat.{ℕ, _≤_}
+use Prim.Native.Nat.{ℕ}
 use native.Mathlib.Omega.{arith}
 use lib.Dec.{eqb}
-use lib.ListN.{length, take, replicate}
+use lib.ListN.{replicate}
 use denote.Ref.{now}
-use Rattle.text.specs.Over.{over, overAt}
-use Rattle.text.proofs.OverLaws.{written-fits}
+use Rattle.text.proofs.OverLaws.{written-fits, written-cut}
 use Rattle.search.specs.Finding as finding
 use Rattle.search.specs.Finding.{searchOf}
 use Rattle.search.specs.declared.Found.{Found}
@@ -147,7 +146,7 @@ held-or-sent s x none = go (turn-cases s x)
 
 pub sending-in-C : SendingInC
 unfolding card-sends.sent card-sends.lineSent turned
-sending-in-C s mute code a e t voice lsd line r next l er en el =
+sending-in-C s mute code a e t voice lsd line r next l (er, en, el) =
     let x : Turn = record { call = callInC mute code a e t; voice = voice; lsd = lsd; line = line } in
     let number = ap (λ (q : SendAnswer). q .number) er in
     let kind = ap (λ (q : SendAnswer). q .kind) er in (
@@ -159,7 +158,7 @@ sending-in-C s mute code a e t voice lsd line r next l er en el =
     )
 
 pub reading-in-C : ReadingInC
-reading-in-C s line voice lsd r v d er ev ed =
+reading-in-C s line voice lsd r v d (er, ev, ed) =
     let number = ap (λ (q : ReadOutcome). q .answer .number) er in
     record {
       refuses =
@@ -182,7 +181,7 @@ searching-in-C recording start r e =
     )
 
 pub stepping-in-C : SteppingInC
-stepping-in-C recording place mark s voice lsd r v d er ev ed =
+stepping-in-C recording place mark s voice lsd r v d (er, ev, ed) =
     let number = ap (λ (q : StepOutcome). q .answer .number) er in
     let x = stepAt recording place (on mark) s voice lsd in
     record {
@@ -205,14 +204,6 @@ pub writing-preset-in-C : WritingPresetInC
 writing-preset-in-C s r e = refuses-as (writing-preset-refuses s _ refl) (ap (λ (q : PresetBits). q .number) e) (λ k. k)
 
 -- ---- the listings
--- what does not fit is left out
-over-cut : (xs buffer : List ℕ) → length buffer ≤ length xs → over xs buffer ≡ take (length buffer) xs
-unfolding over
-over-cut [] [] h = refl
-over-cut [] (y ∷ ys) h = absurd (omega arith)
-over-cut (x ∷ xs) [] h = refl
-over-cut (x ∷ xs) (y ∷ ys) h = ap (λ (l : List ℕ). x ∷ l) (over-cut xs ys (omega arith))
-
 -- by what the search answers
 module _ (recording : List ℕ) where
   abbrev first : ℕ
@@ -236,12 +227,11 @@ module _ (recording : List ℕ) where
   found-listed p e = (_, ap (λ (f : Found). listingBy f recording) e)
 
 pub listing : Listing
-unfolding overAt
 listing recording text r t w =
     record {
       none = none-listed recording;
       begins = λ z. let f = place-found recording z in let l = found-listed recording _ f in (_, l .0, f, l .1);
       ends = λ z. listing-ends recording _ (place-found recording z);
       whole = λ h. written-fits w (omega (arith, w .place));
-      cut = λ h. (w .place ∙ omega arith, w .octets ∙ over-cut (listingOf recording) text (omega arith));
+      cut = written-cut w;
     }

@@ -14,6 +14,7 @@ use Rattle.bits.proofs.Every.{and-left, and-right}
 use Rattle.bits.proofs.PackLaws.{length-octets}
 use Rattle.bas.specs.Reading.{readingOf}
 use Rattle.bas.specs.declared.Word.the-variants.{Code}
+use Rattle.bas.proofs.ReadingLaws.{two-wrong, three-wrong}
 use Rattle.modes.specs.Numbers.{following}
 use Rattle.modes.specs.Codes.{neutral}
 use Rattle.modes.specs.Table.{audioTable, beside, audioPlaces}
@@ -60,7 +61,7 @@ use Rattle.reader.proofs.RangeLaws.{due-back, step-in-range}
 use Rattle.sorter.specs.Sorting.{sortedOf}
 use Rattle.round.proofs.RoundLaws.{voice-bits-back, lsd-back}
 use Rattle.lesson.specs.Session.{Turn, after, Entry, log, blockSent, entryOf}
-use Rattle.lesson.specs.Demand2.{wordTold, wordOf, Answered, LaidDown, GoesOn, BlockAfterBlock, OctetsLaidDown, wordDue, lastSix, KeptAsSent, Placed, InStep, Agrees, readerAfter, HandedBack, Back, AllBack, StaysInStep, JoinsAtNeutral}
+use Rattle.lesson.specs.Demand2.{wordTold, wordOf, Answered, LaidDown, GoesOn, BlockAfterBlock, OctetsLaidDown, wordDue, lastSix, KeptAsSent, Placed, InStep, Agrees, readerAfter, HandedBack, Back, AllBack, StaysInStep, MendsWords, JoinsAtNeutral}
 use Rattle.lesson.proofs.TurnLaws.{Stayed, Went, turn-cases, log-stayed, log-went}
 use Rattle.lesson.proofs.RuleLaws.{rule-due, rule-answer, rule-word, rule-chosen}
 use Rattle.lesson.proofs.WordLaws.{Sends, word-small, plan-mode, plan-due, mode-follows, due-after-same}
@@ -344,6 +345,9 @@ stays-in-step s r (x ∷ xs) bits st = go (turn-cases s x) (stays-in-step s r xs
     go (inr (rule, w)) same next =
         let b = back s x rule w (bits .0) r st in
         rw (log-went s x xs rule w) (b, next (readerAfter r (entryOf s x)) (b .step))
+
+pub mends-words : MendsWords
+mends-words code wrong small = record { few = two-wrong code wrong small; many = three-wrong code wrong }
 
 -- ---- coming into step
 pub joins-at-neutral : JoinsAtNeutral

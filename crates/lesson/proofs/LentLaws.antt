@@ -4,13 +4,13 @@ use mathlib.Core.List.{List, [], _∷_, map}
 use Rattle.sender.specs.declared.Sender.{Sender}
 use Rattle.card.specs.Sending.{sent, lineSent}
 use Rattle.lesson.specs.Session.{turned, run}
-use Rattle.lesson.specs.Lent.{Given, LeftInC, ToldInC, AllowedInC, turnOf, inC, LentIsSession, LentSilence}
+use Rattle.lesson.specs.Lent.{Given, LeftInC, LeavesInC, AllowedInC, turnOf, inC, LentIsSession, LentSilence}
 use Rattle.lesson.proofs.SilenceLaws.{run-allowed, silence}
 
 -- what one call leaves is what the same call by value leaves
-left-is : (s : Sender) (x : Given) (l : LeftInC) → ToldInC s x l → l ≡ inC (turned s (turnOf x))
+left-is : (s : Sender) (x : Given) (l : LeftInC) → LeavesInC s x l → l ≡ inC (turned s (turnOf x))
 unfolding sent lineSent turned
-left-is s x l h = λ i. record { state = h .state i; answer = h .answer i; line = h .line i }
+left-is s x l h = λ i. record { state = h .1 i; answer = h .0 i; line = h .2 i }
 
 lent-run : (s : Sender) (xs : List Given) (ls : List LeftInC) → AllowedInC s xs ls → ls ≡ map inC (run s (map turnOf xs))
 lent-run s [] [] h = refl

@@ -1,13 +1,17 @@
--- Demand 2: the octets sent are those that 01 lays down; a reader in step hands back every code, each data bit, each voice bit of an open
--- block, and ones for a block muted before "audio off" takes hold.
+-- Demand 2: the octets sent are those that 01 lays down; the reader mends BAS words and sorts bits by the same rules (that it finds alignment
+-- is said in Recordings). A reader in step hands back every code, each data bit, each voice bit of an open block, and ones for a block
+-- muted before "audio off" takes hold.
 use mathlib.Core.Path.{_≡_}
 use mathlib.Core.Bool.{Bool, true, false, cond}
 use mathlib.Core.List.{List, [], _∷_, _++_}
 use Prim.Native.Nat.{ℕ, zero, suc, _-_, _%_, _^_, _<_, _≤_}
 use lib.Dec.{eqb}
 use lib.ListN.{length, take, drop, replicate}
-use Rattle.bits.specs.Bits.{bitsOf, number, octets}
+use lib.Bits.{bitXor}
+use Rattle.bits.specs.Bits.{bitsOf, lowBits, number, octets}
 use Rattle.bits.specs.Crc.{blockCrcOf}
+use Rattle.bas.specs.Words as bas
+use Rattle.bas.specs.Reading.{weight, readingOf}
 use Rattle.bas.specs.declared.Word.the-variants.{Code}
 use Rattle.modes.specs.Codes.{neutral, written, audioAttribute, audioOff, lsdOff}
 use Rattle.modes.specs.Numbers.{following}
@@ -180,6 +184,15 @@ EightBits (x ∷ xs) = (x .call .code < 256) × EightBits xs
 -- from a reader in step with the sender, over any session of calls: after each block the two are in step again
 abbrev pub StaysInStep : Type 0
 StaysInStep = (s : Sender) (r : Reader) (xs : List Turn) → EightBits xs → InStep s r → AllBack r (log s xs)
+
+-- ---- the reader mends BAS words
+-- a word of which at most two bits came wrong is read as the code that was sent, and one of which more did never is
+pub record Mends (code wrong : ℕ) : Type 0 where
+  pub few : weight (lowBits 16 wrong) ≤ 2 → readingOf (bitXor (bas.wordOf code) wrong) ≡ Code code
+  pub many : 2 < weight (lowBits 16 wrong) → readingOf (bitXor (bas.wordOf code) wrong) ≡ Code code → ⊥
+
+abbrev pub MendsWords : Type 0
+MendsWords = (code wrong : ℕ) → code < 256 → Mends code wrong
 
 -- ---- coming into step
 -- a reader that waits: place unknown, no word due, no first bits kept

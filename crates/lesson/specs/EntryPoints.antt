@@ -26,9 +26,9 @@ use Rattle.walk.specs.Walks.{onward}
 use Rattle.walk.specs.declared.Walk.{Walk}
 use Rattle.walk.specs.declared.Onward.{Onward}
 use Rattle.lines.specs.Listing.{numberLine, listingOf}
-use Rattle.card.specs.Sending.{on, sent, lineSent}
-use Rattle.card.specs.Reading.{readOutcomeOf}
-use Rattle.card.specs.Walking.{searchAnswerOf, stepOutcomeOf}
+use Rattle.card.specs.Sending.{SendTold}
+use Rattle.card.specs.Reading.{ReadTold}
+use Rattle.card.specs.Walking.{searchAnswerOf, StepTold}
 use Rattle.card.specs.Presets.{presetOutcomeOf, presetBitsOf}
 use Rattle.card.specs.declared.SendAnswer.{SendAnswer}
 use Rattle.card.specs.declared.ReadOutcome.{ReadOutcome}
@@ -85,18 +85,14 @@ callInC mute code a e t = record { mute = yes mute; code = code; a = yes a; e = 
 -- `delampuk_send`: kind 2 is refused, 1 held and 0 sent
 abbrev pub SendingInC : Type 0
 SendingInC = (s : Sender) (mute code a e t : ℕ) (voice lsd line : List ℕ) (r : SendAnswer) (next : Sender) (l : List ℕ)
-    → r ≡ (sent s mute code a e t voice lsd line) .answer
-    → next ≡ (sent s mute code a e t voice lsd line) .state
-    → l ≡ lineSent s mute code a e t voice lsd line
+    → SendTold s mute code a e t voice lsd line r next l
     → RefusesInC (r .kind) 2 (r .number) (sendingRows s (callInC mute code a e t) voice lsd line) ((next ≡ s) × (l ≡ line))
     × (r .number ≡ 0 → r .kind ≡ cond (held s (callInC mute code a e t)) 1 0)
 
 -- `delampuk_read`: kind 1 is refused
 abbrev pub ReadingInC : Type 0
 ReadingInC = (s : Reader) (line voice lsd : List ℕ) (r : ReadOutcome) (v d : List ℕ)
-    → r ≡ readOutcomeOf (reading.outcomeOf s line voice lsd)
-    → v ≡ reading.voiceOf s line voice lsd
-    → d ≡ reading.lsdOf s line voice lsd
+    → ReadTold s line voice lsd r v d
     → RefusesInC (r .answer .kind) 1 (r .answer .number) (readingRows s line voice lsd) ((r .state ≡ s) × (v ≡ voice) × (d ≡ lsd))
 
 -- `delampuk_search`: where it does not refuse, its place is the one that the search found
@@ -107,9 +103,7 @@ SearchingInC = (recording : List ℕ) (start : ℕ) (r : SearchAnswer) → r ≡
 -- `delampuk_step`: kind 3 is refused, and then the mark comes back as it was too
 abbrev pub SteppingInC : Type 0
 SteppingInC = (recording : List ℕ) (place mark : ℕ) (s : Reader) (voice lsd : List ℕ) (r : StepOutcome) (v d : List ℕ)
-    → r ≡ stepOutcomeOf mark (stepAt recording place (on mark) s voice lsd)
-    → v ≡ voiceAt recording place (on mark) s voice lsd
-    → d ≡ lsdAt recording place (on mark) s voice lsd
+    → StepTold recording place mark s voice lsd r v d
     → RefusesInC (r .answer .kind) 3 (r .answer .number) (steppingRows recording place s voice lsd)
     ((r .reader ≡ s) × (r .place ≡ place) × (r .lost ≡ mark) × (v ≡ voice) × (d ≡ lsd))
 

@@ -4,7 +4,7 @@ use mathlib.Core.Path.{_≡_}
 use mathlib.Core.List.{List, [], _∷_, map}
 use Prim.Native.Nat.{ℕ}
 use Rattle.sender.specs.declared.Sender.{Sender}
-use Rattle.card.specs.Sending.{sendAnswerOf, sent, lineSent}
+use Rattle.card.specs.Sending.{sendAnswerOf, SendTold}
 use Rattle.card.specs.declared.SendAnswer.{SendAnswer}
 use Rattle.lesson.specs.Session.{Turn, Left, Allowed}
 use Rattle.lesson.specs.Demand3.{Alike}
@@ -27,18 +27,17 @@ pub record LeftInC : Type 0 where
   pub answer : SendAnswer
   pub line : List ℕ
 
--- the contract of `delampuk_send`
-pub record ToldInC (s : Sender) (x : Given) (l : LeftInC) : Type 0 where
-  pub answer : l .answer ≡ (sent s (x .mute) (x .code) (x .a) (x .e) (x .t) (x .voice) (x .lsd) (x .line)) .answer
-  pub state : l .state ≡ (sent s (x .mute) (x .code) (x .a) (x .e) (x .t) (x .voice) (x .lsd) (x .line)) .state
-  pub line : l .line ≡ lineSent s (x .mute) (x .code) (x .a) (x .e) (x .t) (x .voice) (x .lsd) (x .line)
+-- each leaves what the contract of `delampuk_send` says
+abbrev pub LeavesInC : Sender → Given → LeftInC → Type 0
+LeavesInC s x l =
+    SendTold s (x .mute) (x .code) (x .a) (x .e) (x .t) (x .voice) (x .lsd) (x .line) (l .answer) (l .state) (l .line)
 
 -- a session that it allows: each call finds the state that the one before left in its place
 abbrev pub AllowedInC : Sender → List Given → List LeftInC → Type 0
 AllowedInC s [] [] = Unit {0}
 AllowedInC s [] (l ∷ ls) = ⊥
 AllowedInC s (x ∷ xs) [] = ⊥
-AllowedInC s (x ∷ xs) (l ∷ ls) = ToldInC s x l × AllowedInC (l .state) xs ls
+AllowedInC s (x ∷ xs) (l ∷ ls) = LeavesInC s x l × AllowedInC (l .state) xs ls
 
 -- the same call by value, and what it leaves, in numbers
 abbrev pub turnOf : Given → Turn

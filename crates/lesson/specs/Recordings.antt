@@ -26,15 +26,15 @@ use Rattle.lesson.specs.Demand2.{InStep, Waits, EightBits, readerAfter, 
 
 -- ---- what a search answers, in 01's own words
 -- the SC bit of the octet at an offset
-abbrev pub sc : List ℕ → ℕ → Bool
-sc part offset = odd (getD part offset 0)
+abbrev pub scBit : List ℕ → ℕ → Bool
+scBit part offset = odd (getD part offset 0)
 
 -- SC has 0011011 at offsets 1-7, 1 at 81, 0011011 at 161-167, all 168 octets inside
 pub record Aligned (part : List ℕ) : Type 0 where
-  pub first : sc part 1 ∷ sc part 2 ∷ sc part 3 ∷ sc part 4 ∷ sc part 5 ∷ sc part 6 ∷ sc part 7 ∷ []
+  pub first : scBit part 1 ∷ scBit part 2 ∷ scBit part 3 ∷ scBit part 4 ∷ scBit part 5 ∷ scBit part 6 ∷ scBit part 7 ∷ []
       ≡ false ∷ false ∷ true ∷ true ∷ false ∷ true ∷ true ∷ []
-  pub one : sc part 81 ≡ true
-  pub second : sc part 161 ∷ sc part 162 ∷ sc part 163 ∷ sc part 164 ∷ sc part 165 ∷ sc part 166 ∷ sc part 167 ∷ []
+  pub one : scBit part 81 ≡ true
+  pub second : scBit part 161 ∷ scBit part 162 ∷ scBit part 163 ∷ scBit part 164 ∷ scBit part 165 ∷ scBit part 166 ∷ scBit part 167 ∷ []
       ≡ false ∷ false ∷ true ∷ true ∷ false ∷ true ∷ true ∷ []
   pub inside : 168 ≤ length part
 

@@ -5,7 +5,7 @@ use mathlib.Core.List.{List, [], _∷_, _++_}
 use Prim.Native.Nat.{ℕ, zero, suc, _+_, _≤_, _<_}
 use native.Mathlib.Nat.{zero-add, add-zero, suc-add, zero-min, suc-min-suc}
 use native.Mathlib.Omega.{arith}
-use lib.ListN.{length, drop, set, length-append, take-append-drop}
+use lib.ListN.{length, take, drop, set, length-append, take-append-drop}
 use Rattle.text.specs.Over.{over, overAt, placeIn, Written}
 
 -- ---- from the front
@@ -25,6 +25,13 @@ unfolding over
 over-fits [] buffer h = refl
 over-fits (x ∷ xs) [] h = absurd (omega arith)
 over-fits (x ∷ xs) (y ∷ ys) h = ap (λ (l : List ℕ). x ∷ l) (over-fits xs ys (omega arith))
+
+over-cut : (xs buffer : List ℕ) → length buffer ≤ length xs → over xs buffer ≡ take (length buffer) xs
+unfolding over
+over-cut [] [] h = refl
+over-cut [] (y ∷ ys) h = absurd (omega arith)
+over-cut (x ∷ xs) [] h = refl
+over-cut (x ∷ xs) (y ∷ ys) h = ap (λ (l : List ℕ). x ∷ l) (over-cut xs ys (omega arith))
 
 -- ---- from a place on: by the first octet of the buffer, which stays
 overAt-none : (at : ℕ) (xs : List ℕ) → overAt at xs [] ≡ []
@@ -100,6 +107,11 @@ written-then {at} {r} {s} {xs} {ys} {a} {b} {c} h k =
 -- a text from the front that fits stands there whole, and the rest of the buffer stays
 pub written-fits : {r : ℕ} {xs a b : List ℕ} → Written 0 xs a r b → r ≤ length a → (r ≡ length xs) × (b ≡ xs ++ drop (length xs) a)
 written-fits {r} {xs} {a} {b} h fits = (omega (arith, h .place, fits), h .octets ∙ overAt-fits xs a (omega (arith, h .place, fits)))
+
+-- of one that does not fit, what fits stands there, and the answer is one past the end
+pub written-cut : {r : ℕ} {xs a b : List ℕ} → Written 0 xs a r b → length a < length xs → (r ≡ length a + 1) × (b ≡ take (length a) xs)
+unfolding overAt
+written-cut {xs = xs} {a} h long = (omega (arith, h .place), h .octets ∙ over-cut xs a (omega arith))
 
 -- any two outcomes are equal that a contract allows which says that this piece was written from this place on
 pub written-settled : (at : ℕ) (piece was : List ℕ) (r q : ℕ) (b c : List ℕ)
