@@ -8,7 +8,7 @@ use native.Mathlib.Numerals.{add-one}
 use native.Mathlib.Omega.{arith}
 use lib.Dec.{leb, lit<}
 use borrow.Author.Tests.{le-leb}
-use lib.Seq.{take-suc}
+use lib.Seq.{take-suc, ext-getD}
 use lib.ListN.{length, take, getD}
 use Rattle.bits.specs.Bits.{lowBits, bitsOf, number, xors}
 use Rattle.bits.specs.Remainder.{continued, remainder, Leaves}
@@ -89,3 +89,14 @@ getD-summedFrom at (x ∷ xs) (suc i) h =
 
 pub summed-at : (s : List ℕ) (i : ℕ) → i < length s → summed i (getD s i 0) ≡ getD (summedFrom 0 s) i 0
 summed-at s i h = ap (λ (n : ℕ). summed n (getD s i 0)) (sym (zero-add i)) ∙ sym (getD-summedFrom 0 s i h)
+
+-- blocks whose octets are one as they are summed have one remainder
+pub crc-agree : (s t : List ℕ) → length s ≡ length t
+    → ((i : ℕ) → i < length s → summed i (getD s i 0) ≡ summed i (getD t i 0)) → blockCrcOf s ≡ blockCrcOf t
+unfolding blockCrcOf
+crc-agree s t same each =
+    ap crc4Of
+    (ext-getD 0 (summedFrom 0 s) (summedFrom 0 t) (rw (length-summedFrom 0 s, length-summedFrom 0 t) same) (λ i l.
+    let here : i < length s = rw (length-summedFrom 0 s) at l in
+    let there : i < length t = omega (arith, same) in
+    sym (summed-at s i here) ∙ each i here ∙ summed-at t i there))

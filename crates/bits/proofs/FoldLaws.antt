@@ -6,7 +6,7 @@ use mathlib.Core.List.{List, _++_, append-assoc}
 use Prim.Native.Nat.{ℕ, zero, suc, _+_, _*_, _/_, _%_, _^_, _≤_, _<_}
 use native.Mathlib.Nat.{mod-lt, mod-eq-of-lt}
 use native.Mathlib.Omega.{arith}
-use borrow.Author.Tests.{le-leb, lt-leb}
+use borrow.Author.Tests.{le-leb, lt-leb, lt-ltb, le-ltb}
 use lib.Bits.{bitXor, bitAnd, xor-lt, xor-shr, and-zero-l, and-block, and-mask, and-high}
 use lib.Dec.{lit<}
 use lib.ListN.{length, getD, take, drop, length-append, length-drop}
@@ -139,8 +139,7 @@ after-c : (s : List ℕ) (i : ℕ) → i < length s → 88 ≤ i → getD (summe
 unfolding summed
 after-c s i h l =
     let low : 84 ≤ i = omega arith in
-    let high : 87 < i = omega arith in
-    sym (summed-at s i h) ∙ simp (le-leb _ _ low, lt-leb _ _ high)
+    sym (summed-at s i h) ∙ simp (le-leb _ _ low, le-ltb _ _ l)
 
 summed-before : (s : List ℕ) (at n : ℕ) → at + n ≤ length s → at + n ≤ 84 → numberAt s at n ≡ numberAt (summedFrom 0 s) at n
 summed-before s at n h l = sym (same-number (summedFrom 0 s) s at n (λ i k. before-c s (at + i) (omega arith) (omega arith)))
@@ -176,8 +175,8 @@ unfolding summed
 with-c s i h l =
     let x = getD s (84 + i) 0 in
     let low : 84 ≤ 84 + i = omega arith in
-    let high : 84 + i ≤ 87 = omega arith in
-    let is : getD (summedFrom 0 s) (84 + i) 0 ≡ x / 2 * 2 = sym (summed-at s (84 + i) h) ∙ simp (le-leb _ _ low, le-leb _ _ high) in
+    let high : 84 + i < 88 = omega arith in
+    let is : getD (summedFrom 0 s) (84 + i) 0 ≡ x / 2 * 2 = sym (summed-at s (84 + i) h) ∙ simp (le-leb _ _ low, lt-ltb _ _ high) in
     and-high (x % 256) 7 1 ∙ omega (arith, is)
 
 pub summed-with-c : (s : List ℕ) → length s ≡ 160 → bitAnd (eightAt s 84) 0xFEFE_FEFE_FFFF_FFFF ≡ eightAt (summedFrom 0 s) 84

@@ -2,7 +2,7 @@
 use mathlib.Core.Bool.{Bool, true, false, cond, _&&_}
 use mathlib.Core.List.{List, [], _∷_}
 use Prim.Native.Nat.{ℕ, _+_, _*_, _/_}
-use lib.Dec.{leb}
+use lib.Dec.{leb, ltb}
 use Rattle.bits.specs.Bits.{lowBits, bitsOf, number}
 use Rattle.bits.specs.Remainder.{continued, remainder}
 
@@ -18,9 +18,16 @@ crc4Of octets = number (remainder crc4Generator (bitsOf octets))
 unfoldable pub crc4From : ℕ → List ℕ → ℕ
 crc4From before octets = number (continued crc4Generator (lowBits 4 before) (bitsOf octets))
 
--- whether the octet at this place of a block, counted from 0, has one of C1 to C4 as its bit 8: octets 5 to 8 of the odd frame
+-- C1 to C4 stand in bit 8 of `howManyC` octets of a block from `firstC` on, counted from 0: octets 5 to 8 of the odd frame
+abbrev pub firstC : ℕ
+firstC = 80 + 4
+
+abbrev pub howManyC : ℕ
+howManyC = 4
+
+-- whether the octet at this place of a block has one of them
 abbrev pub carriesC : ℕ → Bool
-carriesC at = leb (80 + 4) at && leb at (80 + 7)
+carriesC at = leb firstC at && ltb at (firstC + howManyC)
 
 -- an octet at its place in a block, with C1 to C4 taken as 0
 unfoldable pub summed : ℕ → ℕ → ℕ

@@ -6,9 +6,9 @@ use mathlib.Core.Logic.{_⊎_, inl, inr}
 use Prim.Native.Nat.{ℕ, zero, suc, _+_, _-_, _*_, _%_, _<_, _≤_}
 use native.Mathlib.Omega.{arith}
 use lib.Dec.{eqb, leb}
-use lib.ListN.{length}
+use lib.ListN.{length, take, replicate}
 use borrow.Author.Tests.{eqb-true, eq-eqb, ne-eqb, leb-true}
-use Rattle.bits.specs.Bits.{number}
+use Rattle.bits.specs.Bits.{bitsOf, number, octets}
 use Rattle.bits.specs.Crc.{blockCrcOf}
 use Rattle.bits.proofs.Every.{and-left, and-right}
 use Rattle.bits.proofs.PackLaws.{length-octets}
@@ -59,12 +59,13 @@ use Rattle.reader.specs.declared.Answer.the-variants.{Block}
 use Rattle.reader.proofs.OutcomeLaws.{takes, told-taken}
 use Rattle.reader.proofs.RangeLaws.{due-back, step-in-range}
 use Rattle.sorter.specs.Sorting.{sortedOf}
+use Rattle.places.proofs.CountLaws.{voice-twice, lsd-twice}
 use Rattle.round.proofs.RoundLaws.{voice-bits-back, lsd-back}
 use Rattle.lesson.specs.Session.{Turn, after, Entry, log, blockSent, entryOf}
 use Rattle.lesson.specs.Demand2.{wordTold, wordOf, Answered, LaidDown, GoesOn, BlockAfterBlock, OctetsLaidDown, wordDue, lastSix, KeptAsSent, Placed, InStep, Agrees, readerAfter, HandedBack, Back, AllBack, StaysInStep, MendsWords, JoinsAtNeutral}
 use Rattle.lesson.proofs.TurnLaws.{Stayed, Went, turn-cases, log-stayed, log-went}
 use Rattle.lesson.proofs.RuleLaws.{rule-due, rule-answer, rule-word, rule-chosen}
-use Rattle.lesson.proofs.WordLaws.{Sends, word-small, plan-mode, plan-due, mode-follows, due-after-same}
+use Rattle.lesson.proofs.WordLaws.{force-apart, Sends, word-small, plan-mode, plan-due, mode-follows, due-after-same}
 
 -- ---- the eight blocks of a multiframe
 pub each : (P : ℕ → Type 0) → P 1 → P 2 → P 3 → P 4 → P 5 → P 6 → P 7 → P 8 → (b : ℕ) → 1 ≤ b → b ≤ 8 → P b
@@ -297,6 +298,7 @@ module _ (s : Sender) (x : Turn) (rule : Rule) (w : Went s x rule) where
         let is = ap (λ (q : Stepped). q .report) (stepped small r) in
         let read : parts.standingOf r ≡ Read = rw (st .knows) in
         let standing = ap (λ (q : Report). q .standing) is ∙ read in
+        let apart = force-apart s (sends .kept) (s .mode .lsd) (sends .kept .ranges .apart) in
         record {
           report = reportOf r shown;
           answer = ap (λ (q : Outcome). q .answer) (t .0) ∙ ap Block is;
@@ -307,11 +309,13 @@ module _ (s : Sender) (x : Turn) (rule : Rule) (w : Went s x rule) where
           heard =
               t .1 ∙ ap₂ (λ (q : Standing) (m : Mode). voiceBy q m (blockSent entry)) standing same
               ∙ ap (sortedOf (s .mode) Voice 140) line-is
-              ∙ voice-bits-back (s .mode) header (x .call .mute) (x .voice) (x .lsd) (w .goes .voice);
+              ∙ voice-bits-back (s .mode) header (x .call .mute) (x .voice) (x .lsd) (w .goes .voice)
+              ∙ ap (λ (n : ℕ). octets 140 (cond (x .call .mute) (replicate n true) (take n (bitsOf (x .voice))))) (voice-twice (s .mode));
           given =
               t .2 ∙ ap₂ (λ (q : Standing) (m : Mode). lsdBy q m (blockSent entry)) standing same
               ∙ ap (sortedOf (s .mode) Lsd 156) line-is
-              ∙ lsd-back (s .mode) header (x .call .mute) (x .voice) (x .lsd) (w .goes .lsd);
+              ∙ lsd-back (s .mode) header (x .call .mute) (x .voice) (x .lsd) (w .goes .lsd)
+              ∙ ap (λ (n : ℕ). octets 156 (take n (bitsOf (x .lsd)))) (lsd-twice (s .mode) apart);
           state = ap (λ (q : Outcome). q .state) (t .0);
         }
 

@@ -7,7 +7,7 @@ use native.Mathlib.Omega.{arith}
 use lib.Dec.{eqb, leb}
 use borrow.Author.Tests.{eqb-true, eqb-false, eq-eqb, ne-eqb, leb-false, lt-leb}
 use Rattle.bas.specs.declared.Word.the-variants.{Code}
-use Rattle.modes.specs.Codes.{attribute, value, written, audioAttribute, audioOff, listedAudio, listedLsd}
+use Rattle.modes.specs.Codes.{attribute, value, written, audioAttribute, audioOff, listedAudio}
 use Rattle.modes.specs.Owners.{overlaps}
 use Rattle.modes.specs.Carried.{carried, senderCarries, readerCarries, openingOf}
 use Rattle.modes.specs.Commands.{mode, commandOf, offered, followed}
@@ -16,14 +16,13 @@ use Rattle.modes.specs.declared.Command.{Command}
 use Rattle.modes.specs.declared.Command.the-variants.{Neutral, SetAudio, SetLsd, NoEffect}
 use Rattle.modes.specs.declared.Opening.{Opening}
 use Rattle.modes.specs.declared.Opening.the-variants.{Nothing, Item, Message}
-use Rattle.modes.proofs.ModeLaws.{audio-code, lsd-code, audio-small, lsd-small, off-ranged}
+use Rattle.modes.proofs.ModeLaws.{audio-code, lsd-code, audio-small, audio-off-apart, off-ranged}
 use Rattle.slots.specs.Slots.{dueBy, dueAfterStanding}
 use Rattle.slots.specs.Readings.{readingIn, obeyed}
 use Rattle.slots.specs.declared.Due.the-variants.{Plain, AnItem}
 use Rattle.slots.specs.declared.Reading.{Reading}
 use Rattle.slots.specs.declared.Reading.the-variants.{Mended}
 use Rattle.slots.proofs.SlotLaws.{item-no-command}
-use Rattle.slots.proofs.RangeLaws.{audio-off-apart}
 use Rattle.sender.specs.Plans.{dueNumber, planBy}
 use Rattle.sender.specs.Refusals.{isAudio, isLsd, clashes, goesPlain, goesAsItem}
 use Rattle.sender.specs.declared.Sender.{Sender}
@@ -148,12 +147,12 @@ module _ (s : Sender) (k : Kept s) where
       absurd (omega arith)
 
   -- in force is off, which overlaps nothing, or the chosen audio
-  force-apart : (v : ℕ) → listedLsd v ≡ true → overlaps (mode (s .chosen) v) ≡ false → overlaps (mode (s .mode .audio) v) ≡ false
-  force-apart v l apart = go (eqb (s .mode .audio) audioOff) refl (k .force)
+  pub force-apart : (v : ℕ) → overlaps (mode (s .chosen) v) ≡ false → overlaps (mode (s .mode .audio) v) ≡ false
+  force-apart v apart = go (eqb (s .mode .audio) audioOff) refl (k .force)
     where
       go : (b : Bool) → eqb (s .mode .audio) audioOff ≡ b → (b || eqb (s .mode .audio) (s .chosen)) ≡ true
           → overlaps (mode (s .mode .audio) v) ≡ false
-      go true e f = ap (λ (n : ℕ). overlaps (mode n v)) (eqb-true (s .mode .audio) audioOff e) ∙ audio-off-apart v (lsd-small v l)
+      go true e f = ap (λ (n : ℕ). overlaps (mode n v)) (eqb-true (s .mode .audio) audioOff e) ∙ audio-off-apart v
       go false e f = ap (λ (n : ℕ). overlaps (mode n v)) (eqb-true (s .mode .audio) (s .chosen) f) ∙ apart
 
   module _ (code : ℕ) (none : clashes s code ≡ false) where
@@ -173,7 +172,7 @@ module _ (s : Sender) (k : Kept s) where
     unfolding clashes
     offered-lsd v e =
         let d = lsd-code code v e in
-        force-apart v (d .listed) (ap (λ (n : ℕ). overlaps (mode (s .chosen) n)) (d .is) ∙ rw (d .kind) at (or-right spoken given none))
+        force-apart v (ap (λ (n : ℕ). overlaps (mode (s .chosen) n)) (d .is) ∙ rw (d .kind) at (or-right spoken given none))
 
 -- ---- the reading of a word in the slot that is due
 obeyed-mended : (w : ℕ) (m : Mode) → obeyed (Mended w) m ≡ followed (commandOf w) m
@@ -192,8 +191,7 @@ module _ (s : Sender) (code : ℕ) where
   followed-as-planned MuteOff k e =
       let w = written audioAttribute audioOff in
       let is = audio-command audioOff (off-ranged .spoken) (off-ranged .named) in
-      let low = lsd-small (s .mode .lsd) (k .kept .ranges .given) in
-      follow-offer (s .mode) _ (λ v e. audio-apart s (k .kept) w audioOff v is (audio-off-apart (s .mode .lsd) low) e) (λ v e. no-lsd s (k .kept) w audioOff v is e)
+      follow-offer (s .mode) _ (λ v e. audio-apart s (k .kept) w audioOff v is (audio-off-apart (s .mode .lsd)) e) (λ v e. no-lsd s (k .kept) w audioOff v is e)
   followed-as-planned Release k e =
       let w = written audioAttribute (s .chosen) in
       let is = audio-command (s .chosen) (k .kept .ranges .spoken) (k .kept .ranges .named) in

@@ -4,7 +4,7 @@
 use mathlib.Core.Path.{_≡_}
 use mathlib.Core.Bool.{Bool, true, false, cond}
 use mathlib.Core.List.{List, [], _∷_, _++_}
-use Prim.Native.Nat.{ℕ, zero, suc, _-_, _%_, _^_, _<_, _≤_}
+use Prim.Native.Nat.{ℕ, zero, suc, _-_, _*_, _%_, _^_, _<_, _≤_}
 use lib.Dec.{eqb}
 use lib.ListN.{length, take, drop, replicate}
 use lib.Bits.{bitXor}
@@ -15,6 +15,7 @@ use Rattle.bas.specs.Reading.{weight, readingOf}
 use Rattle.bas.specs.declared.Word.the-variants.{Code}
 use Rattle.modes.specs.Codes.{neutral, written, audioAttribute, audioOff, lsdOff}
 use Rattle.modes.specs.Numbers.{following}
+use Rattle.modes.specs.Owners.{heldBy, bitsPerFrame}
 use Rattle.modes.specs.Carried.{openingOf}
 use Rattle.modes.specs.Commands.{mode, commandOf, offered}
 use Rattle.modes.specs.declared.Mode.{Mode}
@@ -26,8 +27,6 @@ use Rattle.slots.specs.Slots.{standing}
 use Rattle.slots.specs.Readings.{readingIn}
 use Rattle.slots.specs.declared.Due.{Due}
 use Rattle.slots.specs.declared.Due.the-variants.{Plain, AnItem}
-use Rattle.places.specs.Streams.{count}
-use Rattle.places.specs.Places.{places}
 use Rattle.frame.specs.Block.{blockOf}
 use Rattle.sender.specs.State as sending
 use Rattle.sender.specs.State.{itemDue}
@@ -138,19 +137,19 @@ pub record Agrees (s : Sender) (r : Reader) : Type 0 where
 abbrev pub readerAfter : Reader → Entry → Reader
 readerAfter r e = (reading.stepOf r (signsOf (blockSent e))) .state
 
--- as many bits as the stream has places in a block
-abbrev pub holds : Owner → Mode → ℕ
-holds o m = count o (places m ++ places m)
+-- how many bits of a stream's buffer count: twice its bits per frame
+abbrev pub counting : Owner → Mode → ℕ
+counting o m = 2 * bitsPerFrame (heldBy m o)
 
 -- each voice bit of an open block, and ones for a muted one
 abbrev pub voiceBits : Entry → List Bool
 voiceBits e =
-    let n = holds Voice (e .found .mode) in
+    let n = counting Voice (e .found .mode) in
     cond (e .turn .call .mute) (replicate n true) (take n (bitsOf (e .turn .voice)))
 
 -- each data bit
 abbrev pub lsdBits : Entry → List Bool
-lsdBits e = take (holds Lsd (e .found .mode)) (bitsOf (e .turn .lsd))
+lsdBits e = take (counting Lsd (e .found .mode)) (bitsOf (e .turn .lsd))
 
 -- whatever the reader's contract allows, with buffers of the right lengths: the block is read; its word is the word sent, under the
 -- reading that its slot gives it; voice and data are the sender's, and zeros after them; every verdict but a first is good once the

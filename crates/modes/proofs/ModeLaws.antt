@@ -1,4 +1,5 @@
--- Laws of modes: that a block number goes on within its eight, what being in range says, what a code is as a command, and that listed values are small.
+-- Laws of modes: that a block number goes on within its eight, that listed values are small, that audio off overlaps nothing, what being in
+-- range says, and what a code is as a command.
 use mathlib.Core.Path.{_≡_, refl, sym, ap, _∙_}
 use mathlib.Core.Bool.{Bool, true, false, false≢true, not, cond, _&&_}
 use Prim.Native.Nat.{ℕ, _+_, _/_, _<_}
@@ -15,7 +16,8 @@ use Rattle.modes.specs.declared.BlockNumber.{BlockNumber}
 use Rattle.modes.specs.declared.Places.{Places}
 use Rattle.modes.specs.declared.Mode.{Mode}
 use Rattle.modes.specs.declared.Command.the-variants.{Neutral, SetAudio, SetLsd, NoEffect}
-use Rattle.modes.proofs.TableLaws.{audio-past, lsd-past}
+use Rattle.modes.proofs.TableLaws.{audio-past, lsd-past, audio-shape}
+use Rattle.modes.proofs.OwnerLaws.{overlaps-is}
 
 -- ---- a block is followed by one of the eight
 pub following-low : (b : BlockNumber) → within 1 8 ((following b) .0) ≡ true
@@ -42,6 +44,19 @@ lsd-small v t = go (ltb v 15) refl
     go : (b : Bool) → ltb v 15 ≡ b → v < 15
     go true e = ltb-true v 15 e
     go false e = absurd (false≢true (sym (ap (λ (p : Places). p .listed) (lsd-past v (ltb-false v 15 e))) ∙ t))
+
+-- ---- audio that holds no octet bits overlaps nothing, whatever the data value d
+no-bits-apart : (v d : ℕ) → (audioPlaces v) .to ≡ 0 → overlaps (mode v d) ≡ false
+no-bits-apart v d none = overlaps-is (mode v d) ∙ rw (audio-shape v .0, none, audio-shape v .1, audio-shape v .2)
+
+-- 'Refusal numbers', of (000)[0] and (000)[31]: neither overlaps anything
+pub neutral-apart : (d : ℕ) → overlaps (mode 0 d) ≡ false
+unfolding audioPlaces audioTable beside
+neutral-apart d = no-bits-apart 0 d refl
+
+pub audio-off-apart : (d : ℕ) → overlaps (mode audioOff d) ≡ false
+unfolding audioPlaces audioTable beside
+audio-off-apart d = no-bits-apart audioOff d refl
 
 -- ---- in range, taken apart and put together
 pub record Ranged (m : Mode) : Type 0 where

@@ -2,18 +2,19 @@
 use mathlib.Core.Path.{_≡_, refl, sym, ap, ap₂, _∙_}
 use mathlib.Core.Bool.{Bool, true, false, false≢true, cond, _&&_, _||_, or-true}
 use mathlib.Core.Logic.{⊎-elim}
-use Prim.Native.Nat.{ℕ, zero, suc, _+_, _-_, _*_, _≤_, min}
+use Prim.Native.Nat.{ℕ, zero, suc, _+_, _-_, _*_, _≤_, _<_, min}
 use native.Mathlib.Nat.{eq-or-lt-of-le, le-of-suc-le-suc, le-step, suc-mul, zero-mul}
 use native.Mathlib.Omega.{arith}
 use lib.Dec.{eqb, leb}
 use borrow.Author.Tests.{leb-true, leb-false, eqb-true, le-leb, ne-eqb}
 use Rattle.bits.specs.Bits.{digit}
 use Rattle.bits.proofs.Every.{and-left, and-right, and-make}
+use Rattle.modes.specs.Numbers.{octet}
 use Rattle.modes.specs.Table.{audioPlaces, lsdPlaces}
 use Rattle.modes.specs.Owners.{within, holds, heldBy, some, count, clash, overlaps, bitsPerFrame}
 use Rattle.modes.specs.declared.Mode.{Mode}
 use Rattle.modes.specs.declared.Places.{Places}
-use Rattle.modes.proofs.TableLaws.{Fit, audio-fit, lsd-fit}
+use Rattle.modes.proofs.TableLaws.{Fit, audio-fit, lsd-fit, audio-shape, lsd-shape}
 
 -- ---- some number of 1 to n
 some-at : (n : ℕ) (p : ℕ → Bool) (k : ℕ) → 1 ≤ k → k ≤ n → p k ≡ true → some n p ≡ true
@@ -33,6 +34,12 @@ some-none (suc n) p h = ap₂ _||_ (h (suc n)) (some-none n p h)
 -- ---- two ranges
 abbrev pub meets : ℕ → ℕ → ℕ → ℕ → Bool
 meets a b c d = leb a b && leb c d && leb a d && leb c b
+
+meets-make : (a b c d : ℕ) → a ≤ b → c ≤ d → a ≤ d → c ≤ b → meets a b c d ≡ true
+meets-make a b c d ab cd ad cb =
+    and-make (leb a b && leb c d && leb a d) (leb c b)
+    (and-make (leb a b && leb c d) (leb a d) (and-make (leb a b) (leb c d) (le-leb a b ab) (le-leb c d cd)) (le-leb a d ad))
+    (le-leb c b cb)
 
 within-make : (a b n : ℕ) → a ≤ n → n ≤ b → within a b n ≡ true
 within-make a b n h l = and-make (leb a n) (leb n b) (le-leb a n h) (le-leb n b l)
@@ -70,66 +77,63 @@ apart a b c d n f = go (within a b n && within c d n) refl
         let nb = leb-true n b (and-right (leb a n) (leb n b) ab) in
         let cn = leb-true c n (and-left (leb c n) (leb n d) cd) in
         let nd = leb-true n d (and-right (leb c n) (leb n d) cd) in
-        absurd (false≢true (sym f ∙ and-make (leb a b && leb c d && leb a d) (leb c b)
-        (and-make (leb a b && leb c d) (leb a d)
-        (and-make (leb a b) (leb c d) (le-leb a b (omega arith)) (le-leb c d (omega arith)))
-        (le-leb a d (omega arith)))
-        (le-leb c b (omega arith))))
+        absurd (false≢true (sym f ∙ meets-make a b c d (omega arith) (omega arith) (omega arith) (omega arith)))
 
 -- ---- a place held by both
 both : Places → Places → ℕ → ℕ → Bool
-both p q octet bit = holds p octet bit && holds q octet bit
+both p q o bit = holds p (octet o) bit && holds q (octet o) bit
 
-both-sc : (p q : Places) (octet : ℕ) → both p q octet 8 ≡ (within (p .first) (p .last) octet && within (q .first) (q .last) octet)
+both-sc : (p q : Places) (o : ℕ) → both p q o 8 ≡ (within (p .first .0) (p .last .0) o && within (q .first .0) (q .last .0) o)
 unfolding both holds
-both-sc p q octet = refl
+both-sc p q o = refl
 
-both-bit : (p q : Places) (octet bit : ℕ) → eqb bit 8 ≡ false
-    → both p q octet bit ≡ (within (p .from) (p .to) bit && within (q .from) (q .to) bit)
+both-bit : (p q : Places) (o bit : ℕ) → eqb bit 8 ≡ false
+    → both p q o bit ≡ (within (p .from) (p .to) bit && within (q .from) (q .to) bit)
 unfolding both holds
-both-bit p q octet bit e = rw e
+both-bit p q o bit e = rw e
 
 inside : (a b n : ℕ) → within a b n ≡ true → (a ≤ n) × (n ≤ b)
 inside a b n t = (leb-true a n (and-left (leb a n) (leb n b) t), leb-true n b (and-right (leb a n) (leb n b) t))
 
 module _ (p q : Places) (fp : Fit p) (fq : Fit q) where
-  bits-meet : meets (p .from) (p .to) (q .from) (q .to) ≡ true → some 80 (λ (octet : ℕ). some 8 (both p q octet)) ≡ true
+  bits-meet : meets (p .from) (p .to) (q .from) (q .to) ≡ true → some 80 (λ (o : ℕ). some 8 (both p q o)) ≡ true
   bits-meet t =
       let n = start (p .from) (q .from) in
       let common = start-in (p .from) (p .to) (q .from) (q .to) t in
       let bounds = inside (p .from) (p .to) n (and-left (within (p .from) (p .to) n) (within (q .from) (q .to) n) common) in
       let seven : n ≤ 7 = omega (arith, fp .ends, bounds .1) in
       let one : 1 ≤ n = omega (arith, fp .starts, bounds .0) in
-      some-at 80 (λ (octet : ℕ). some 8 (both p q octet)) 1 (omega arith) (omega arith)
+      some-at 80 (λ (o : ℕ). some 8 (both p q o)) 1 (omega arith) (omega arith)
       (some-at 8 (both p q 1) n one (omega arith) (both-bit p q 1 n (ne-eqb n 8 (λ e. omega arith)) ∙ common))
 
-  channel-meets : meets (p .first) (p .last) (q .first) (q .last) ≡ true → some 80 (λ (octet : ℕ). some 8 (both p q octet)) ≡ true
+  channel-meets : meets (p .first .0) (p .last .0) (q .first .0) (q .last .0) ≡ true → some 80 (λ (o : ℕ). some 8 (both p q o)) ≡ true
   channel-meets t =
-      let n = start (p .first) (q .first) in
-      let common = start-in (p .first) (p .last) (q .first) (q .last) t in
-      let bounds = inside (p .first) (p .last) n (and-left (within (p .first) (p .last) n) (within (q .first) (q .last) n) common) in
+      let n = start (p .first .0) (q .first .0) in
+      let common = start-in (p .first .0) (p .last .0) (q .first .0) (q .last .0) t in
+      let held = within (p .first .0) (p .last .0) n in
+      let bounds = inside (p .first .0) (p .last .0) n (and-left held (within (q .first .0) (q .last .0) n) common) in
       let last : n ≤ 80 = omega (arith, fp .closes, bounds .1) in
       let one : 1 ≤ n = omega (arith, fp .opens, bounds .0) in
-      some-at 80 (λ (octet : ℕ). some 8 (both p q octet)) n one last
+      some-at 80 (λ (o : ℕ). some 8 (both p q o)) n one last
       (some-at 8 (both p q n) 8 (omega arith) (omega arith) (both-sc p q n ∙ common))
 
-  none-meets : meets (p .from) (p .to) (q .from) (q .to) ≡ false → meets (p .first) (p .last) (q .first) (q .last) ≡ false
-      → some 80 (λ (octet : ℕ). some 8 (both p q octet)) ≡ false
+  none-meets : meets (p .from) (p .to) (q .from) (q .to) ≡ false → meets (p .first .0) (p .last .0) (q .first .0) (q .last .0) ≡ false
+      → some 80 (λ (o : ℕ). some 8 (both p q o)) ≡ false
   none-meets b c =
-      some-none 80 (λ (octet : ℕ). some 8 (both p q octet))
-      (λ octet. some-none 8 (both p q octet) (λ bit. at octet bit (eqb bit 8) refl))
+      some-none 80 (λ (o : ℕ). some 8 (both p q o))
+      (λ o. some-none 8 (both p q o) (λ bit. at o bit (eqb bit 8) refl))
     where
-      at : (octet bit : ℕ) (s : Bool) → eqb bit 8 ≡ s → both p q octet bit ≡ false
-      at octet bit true e =
-          ap (both p q octet) (eqb-true bit 8 e) ∙ both-sc p q octet ∙ apart (p .first) (p .last) (q .first) (q .last) octet c
-      at octet bit false e = both-bit p q octet bit e ∙ apart (p .from) (p .to) (q .from) (q .to) bit b
+      at : (o bit : ℕ) (s : Bool) → eqb bit 8 ≡ s → both p q o bit ≡ false
+      at o bit true e =
+          ap (both p q o) (eqb-true bit 8 e) ∙ both-sc p q o ∙ apart (p .first .0) (p .last .0) (q .first .0) (q .last .0) o c
+      at o bit false e = both-bit p q o bit e ∙ apart (p .from) (p .to) (q .from) (q .to) bit b
 
-  pub clash-is : clash p q ≡ (meets (p .from) (p .to) (q .from) (q .to) || meets (p .first) (p .last) (q .first) (q .last))
+  pub clash-is : clash p q ≡ (meets (p .from) (p .to) (q .from) (q .to) || meets (p .first .0) (p .last .0) (q .first .0) (q .last .0))
   unfolding clash both
-  clash-is = go (meets (p .from) (p .to) (q .from) (q .to)) (meets (p .first) (p .last) (q .first) (q .last)) refl refl
+  clash-is = go (meets (p .from) (p .to) (q .from) (q .to)) (meets (p .first .0) (p .last .0) (q .first .0) (q .last .0)) refl refl
     where
-      go : (b c : Bool) → meets (p .from) (p .to) (q .from) (q .to) ≡ b → meets (p .first) (p .last) (q .first) (q .last) ≡ c
-          → some 80 (λ (octet : ℕ). some 8 (both p q octet)) ≡ (b || c)
+      go : (b c : Bool) → meets (p .from) (p .to) (q .from) (q .to) ≡ b → meets (p .first .0) (p .last .0) (q .first .0) (q .last .0) ≡ c
+          → some 80 (λ (o : ℕ). some 8 (both p q o)) ≡ (b || c)
       go true c eb ec = bits-meet eb
       go false true eb ec = channel-meets ec
       go false false eb ec = none-meets eb ec
@@ -138,9 +142,32 @@ module _ (p q : Places) (fp : Fit p) (fq : Fit q) where
 pub overlaps-is : (m : Mode)
     → overlaps m
     ≡ (meets (audioPlaces (m .audio) .from) (audioPlaces (m .audio) .to) (lsdPlaces (m .lsd) .from) (lsdPlaces (m .lsd) .to)
-    || meets (audioPlaces (m .audio) .first) (audioPlaces (m .audio) .last) (lsdPlaces (m .lsd) .first) (lsdPlaces (m .lsd) .last))
+    || meets (audioPlaces (m .audio) .first .0) (audioPlaces (m .audio) .last .0) (lsdPlaces (m .lsd) .first .0) (lsdPlaces (m .lsd) .last .0))
 unfolding overlaps heldBy
 overlaps-is m = clash-is (audioPlaces (m .audio)) (lsdPlaces (m .lsd)) (audio-fit (m .audio)) (lsd-fit (m .lsd))
+
+-- where they do not overlap, voice's octet bits end before data's begin
+pub voice-ends-first : (m : Mode) → overlaps m ≡ false → (audioPlaces (m .audio)) .to < (lsdPlaces (m .lsd)) .from
+voice-ends-first m apart = go (leb (d .from) (v .to)) refl
+  where
+    v : Places
+    v = audioPlaces (m .audio)
+
+    d : Places
+    d = lsdPlaces (m .lsd)
+
+    go : (t : Bool) → leb (d .from) (v .to) ≡ t → v .to < d .from
+    go false e = leb-false (d .from) (v .to) e
+    go true e =
+        let l = leb-true (d .from) (v .to) e in
+        let one : v .from ≡ 1 = audio-shape (m .audio) .0 in
+        let seven : d .to ≡ 7 = lsd-shape (m .lsd) .0 in
+        let low : 1 ≤ d .from = lsd-fit (m .lsd) .starts in
+        let high : v .to ≤ 7 = audio-fit (m .audio) .ends in
+        let met : meets (v .from) (v .to) (d .from) (d .to) ≡ true =
+        meets-make (v .from) (v .to) (d .from) (d .to) (omega arith) (omega arith) (omega arith) l in
+        let channel = meets (v .first .0) (v .last .0) (d .first .0) (d .last .0) in
+        absurd (false≢true (sym apart ∙ overlaps-is m ∙ ap (λ (b : Bool). b || channel) met))
 
 -- ---- how many numbers of 1 to n
 pub count-ext : (n : ℕ) (f g : ℕ → ℕ) → ((k : ℕ) → k ≤ n → f k ≡ g k) → count n f ≡ count n g
@@ -166,22 +193,24 @@ count-within (suc n) a b h l = go (leb a (suc n)) (leb (suc n) b) refl refl (cou
 
 -- the places of octet o are those of its bits 1 to 7, and its SC bit
 row-count : (p : Places) → Fit p → (o : ℕ)
-    → count 8 (λ (bit : ℕ). digit (holds p o bit)) ≡ digit (within (p .first) (p .last) o) + (p .to + 1 - p .from)
+    → count 8 (λ (bit : ℕ). digit (holds p (octet o) bit)) ≡ digit (within (p .first .0) (p .last .0) o) + (p .to + 1 - p .from)
 unfolding holds
 row-count p f o =
-    let seven : count 7 (λ (bit : ℕ). digit (holds p o bit)) ≡ p .to + 1 - p .from =
-    count-ext 7 (λ (bit : ℕ). digit (holds p o bit)) (λ (bit : ℕ). digit (within (p .from) (p .to) bit))
-    (λ k l. ap (λ (b : Bool). digit (cond b (within (p .first) (p .last) o) (within (p .from) (p .to) k))) (ne-eqb k 8 (λ e. omega arith)))
+    let held : ℕ → ℕ = λ (bit : ℕ). digit (holds p (octet o) bit) in
+    let seven : count 7 held ≡ p .to + 1 - p .from =
+    count-ext 7 held (λ (bit : ℕ). digit (within (p .from) (p .to) bit))
+    (λ k l. ap (λ (b : Bool). digit (cond b (within (p .first .0) (p .last .0) o) (within (p .from) (p .to) k))) (ne-eqb k 8 (λ e. omega arith)))
     ∙ count-within 7 (p .from) (p .to) (f .starts) (f .spans)
     ∙ omega (arith, f .ends) in
-    let whole : count 8 (λ (bit : ℕ). digit (holds p o bit)) ≡ digit (within (p .first) (p .last) o) + count 7 (λ (bit : ℕ). digit (holds p o bit)) = unfold count in refl in
-    whole ∙ ap (λ (n : ℕ). digit (within (p .first) (p .last) o) + n) seven
+    let whole : count 8 held ≡ digit (within (p .first .0) (p .last .0) o) + count 7 held = unfold count in refl in
+    whole ∙ ap (λ (n : ℕ). digit (within (p .first .0) (p .last .0) o) + n) seven
 
-pub bits-per-frame-is : (p : Places) → Fit p → bitsPerFrame p ≡ (p .to + 1 - p .from) * 80 + (p .last + 1 - p .first)
+pub bits-per-frame-is : (p : Places) → Fit p → bitsPerFrame p ≡ (p .to + 1 - p .from) * 80 + (p .last .0 + 1 - p .first .0)
 unfolding bitsPerFrame
 bits-per-frame-is p f =
     let c = p .to + 1 - p .from in
-    count-ext 80 (λ (o : ℕ). count 8 (λ (bit : ℕ). digit (holds p o bit))) (λ (o : ℕ). digit (within (p .first) (p .last) o) + c) (λ o l. row-count p f o)
-    ∙ count-plus 80 (λ (o : ℕ). digit (within (p .first) (p .last) o)) c
-    ∙ ap (λ (n : ℕ). n + 80 * c) (count-within 80 (p .first) (p .last) (f .opens) (f .runs))
+    let channel : ℕ → ℕ = λ (o : ℕ). digit (within (p .first .0) (p .last .0) o) in
+    count-ext 80 (λ (o : ℕ). count 8 (λ (bit : ℕ). digit (holds p (octet o) bit))) (λ (o : ℕ). channel o + c) (λ o l. row-count p f o)
+    ∙ count-plus 80 channel c
+    ∙ ap (λ (n : ℕ). n + 80 * c) (count-within 80 (p .first .0) (p .last .0) (f .opens) (f .runs))
     ∙ omega (arith, f .closes)

@@ -7,6 +7,7 @@ use native.Mathlib.Omega.{arith}
 use lib.Dec.{eqb, leb, ltb}
 use borrow.Author.Tests.{leb-true, ltb-true, eqb-true, ne-eqb, lt-ltb, le-ltb}
 use Rattle.bits.proofs.Every.{and-left, and-right, everyBelow, below}
+use Rattle.modes.specs.Numbers.{octet}
 use Rattle.modes.specs.Table.{bitsAndSc, octetBitsTo, octetBitsFrom, scOctets, notListed, audioTable, lsdTable, beside, audioPlaces, lsdPlaces}
 use Rattle.modes.specs.Owners.{heldBy}
 use Rattle.modes.specs.declared.Places.{Places}
@@ -62,7 +63,9 @@ same-bool false true e = e
 same-bool false false e = refl
 
 same : Places → Places → Bool
-same p q = sameBool (p .listed) (q .listed) && (eqb (p .from) (q .from) && (eqb (p .to) (q .to) && (eqb (p .first) (q .first) && eqb (p .last) (q .last))))
+same p q =
+    sameBool (p .listed) (q .listed)
+    && (eqb (p .from) (q .from) && (eqb (p .to) (q .to) && (eqb (p .first .0) (q .first .0) && eqb (p .last .0) (q .last .0))))
 
 same-places : (p q : Places) → same p q ≡ true → p ≡ q
 unfolding same
@@ -70,17 +73,17 @@ same-places p q t =
     let a = sameBool (p .listed) (q .listed) in
     let b = eqb (p .from) (q .from) in
     let c = eqb (p .to) (q .to) in
-    let d = eqb (p .first) (q .first) in
-    let e = eqb (p .last) (q .last) in
+    let d = eqb (p .first .0) (q .first .0) in
+    let e = eqb (p .last .0) (q .last .0) in
     let t2 = and-right a (b && (c && (d && e))) t in
     let t3 = and-right b (c && (d && e)) t2 in
     let t4 = and-right c (d && e) t3 in
     let ea = same-bool (p .listed) (q .listed) (and-left a (b && (c && (d && e))) t) in
     let eb = eqb-true (p .from) (q .from) (and-left b (c && (d && e)) t2) in
     let ec = eqb-true (p .to) (q .to) (and-left c (d && e) t3) in
-    let ed = eqb-true (p .first) (q .first) (and-left d e t4) in
-    let ee = eqb-true (p .last) (q .last) (and-right d e t4) in
-    λ i. record { listed = ea i; from = eb i; to = ec i; first = ed i; last = ee i }
+    let ed = eqb-true (p .first .0) (q .first .0) (and-left d e t4) in
+    let ee = eqb-true (p .last .0) (q .last .0) (and-right d e t4) in
+    λ i. record { listed = ea i; from = eb i; to = ec i; first = octet (ed i); last = octet (ee i) }
 
 -- an entry of the table of audio: w, or 8 where the value is not listed
 unfoldable pub audioEntry : ℕ → ℕ
@@ -110,7 +113,7 @@ audio-not-listed v w h e l =
 
 -- an entry of the table of data: a, f and l
 unfoldable pub lsdEntry : ℕ → List ℕ
-lsdEntry v = (lsdPlaces v) .from ∷ (lsdPlaces v) .first ∷ (lsdPlaces v) .last ∷ []
+lsdEntry v = (lsdPlaces v) .from ∷ (lsdPlaces v) .first .0 ∷ (lsdPlaces v) .last .0 ∷ []
 
 lsdRight : ℕ → Bool
 lsdRight v = same (bitsAndSc ((lsdPlaces v) .from) 7 ((lsdPlaces v) .first) ((lsdPlaces v) .last)) (lsdPlaces v)
@@ -129,21 +132,23 @@ pub record Fit (p : Places) : Type 0 where
   pub starts : 1 ≤ p .from
   pub spans : p .from ≤ p .to + 1
   pub ends : p .to ≤ 7
-  pub opens : 1 ≤ p .first
-  pub runs : p .first ≤ p .last + 1
-  pub closes : p .last ≤ 80
+  pub opens : 1 ≤ p .first .0
+  pub runs : p .first .0 ≤ p .last .0 + 1
+  pub closes : p .last .0 ≤ 80
 
 abbrev fits : Places → Bool
-fits p = leb 1 (p .from) && (leb (p .from) (p .to + 1) && (leb (p .to) 7 && (leb 1 (p .first) && (leb (p .first) (p .last + 1) && leb (p .last) 80))))
+fits p =
+    leb 1 (p .from) && (leb (p .from) (p .to + 1)
+    && (leb (p .to) 7 && (leb 1 (p .first .0) && (leb (p .first .0) (p .last .0 + 1) && leb (p .last .0) 80))))
 
 fit : (p : Places) → fits p ≡ true → Fit p
 fit p t =
     let a = leb 1 (p .from) in
     let b = leb (p .from) (p .to + 1) in
     let c = leb (p .to) 7 in
-    let d = leb 1 (p .first) in
-    let e = leb (p .first) (p .last + 1) in
-    let f = leb (p .last) 80 in
+    let d = leb 1 (p .first .0) in
+    let e = leb (p .first .0) (p .last .0 + 1) in
+    let f = leb (p .last .0) 80 in
     let t2 = and-right a (b && (c && (d && (e && f)))) t in
     let t3 = and-right b (c && (d && (e && f))) t2 in
     let t4 = and-right c (d && (e && f)) t3 in
@@ -152,9 +157,9 @@ fit p t =
       starts = leb-true 1 (p .from) (and-left a (b && (c && (d && (e && f)))) t);
       spans = leb-true (p .from) (p .to + 1) (and-left b (c && (d && (e && f))) t2);
       ends = leb-true (p .to) 7 (and-left c (d && (e && f)) t3);
-      opens = leb-true 1 (p .first) (and-left d (e && f) t4);
-      runs = leb-true (p .first) (p .last + 1) (and-left e f t5);
-      closes = leb-true (p .last) 80 (and-right e f t5);
+      opens = leb-true 1 (p .first .0) (and-left d (e && f) t4);
+      runs = leb-true (p .first .0) (p .last .0 + 1) (and-left e f t5);
+      closes = leb-true (p .last .0) 80 (and-right e f t5);
     }
 
 pub audio-fit : (v : ℕ) → Fit (audioPlaces v)
@@ -167,32 +172,34 @@ lsd-fit v = fit (lsdPlaces v) (beside-all fits lsdTable (notListed (octetBitsFro
 
 pub held-fit : (m : Mode) (o : Owner) → Fit (heldBy m o)
 unfolding heldBy
-held-fit m Service = fit (scOctets 1 16) refl
+held-fit m Service = fit (scOctets (octet 1) (octet 16)) refl
 held-fit m Voice = audio-fit (m .audio)
 held-fit m Lsd = lsd-fit (m .lsd)
 held-fit m Nobody = fit (octetBitsFrom 8) refl
 
 -- ---- audio is octet bits 1 to w and no SC octet, data is octet bits a to 7, whatever the value
 abbrev fromOne : Places → Bool
-fromOne p = eqb (p .from) 1 && (eqb (p .first) 17 && eqb (p .last) 16)
+fromOne p = eqb (p .from) 1 && (eqb (p .first .0) 17 && eqb (p .last .0) 16)
 
-pub audio-shape : (v : ℕ) → ((audioPlaces v) .from ≡ 1) × ((audioPlaces v) .first ≡ 17) × ((audioPlaces v) .last ≡ 16)
+pub audio-shape : (v : ℕ) → ((audioPlaces v) .from ≡ 1) × ((audioPlaces v) .first .0 ≡ 17) × ((audioPlaces v) .last .0 ≡ 16)
 unfolding audioPlaces audioTable
 audio-shape v =
     let p = audioPlaces v in
     let t : fromOne p ≡ true = beside-all fromOne audioTable (notListed (octetBitsTo 0)) v refl refl in
-    let u = and-right (eqb (p .from) 1) (eqb (p .first) 17 && eqb (p .last) 16) t in (
-      eqb-true (p .from) 1 (and-left (eqb (p .from) 1) (eqb (p .first) 17 && eqb (p .last) 16) t),
-      eqb-true (p .first) 17 (and-left (eqb (p .first) 17) (eqb (p .last) 16) u),
-      eqb-true (p .last) 16 (and-right (eqb (p .first) 17) (eqb (p .last) 16) u),
+    let u = and-right (eqb (p .from) 1) (eqb (p .first .0) 17 && eqb (p .last .0) 16) t in (
+      eqb-true (p .from) 1 (and-left (eqb (p .from) 1) (eqb (p .first .0) 17 && eqb (p .last .0) 16) t),
+      eqb-true (p .first .0) 17 (and-left (eqb (p .first .0) 17) (eqb (p .last .0) 16) u),
+      eqb-true (p .last .0) 16 (and-right (eqb (p .first .0) 17) (eqb (p .last .0) 16) u),
     )
 
 abbrev toSeven : Places → Bool
-toSeven p = eqb (p .to) 7 && leb 17 (p .first)
+toSeven p = eqb (p .to) 7 && leb 17 (p .first .0)
 
-pub lsd-shape : (v : ℕ) → ((lsdPlaces v) .to ≡ 7) × (17 ≤ (lsdPlaces v) .first)
+pub lsd-shape : (v : ℕ) → ((lsdPlaces v) .to ≡ 7) × (17 ≤ (lsdPlaces v) .first .0)
 unfolding lsdPlaces lsdTable
 lsd-shape v =
     let p = lsdPlaces v in
     let t : toSeven p ≡ true = beside-all toSeven lsdTable (notListed (octetBitsFrom 8)) v refl refl in
-    (eqb-true (p .to) 7 (and-left (eqb (p .to) 7) (leb 17 (p .first)) t), leb-true 17 (p .first) (and-right (eqb (p .to) 7) (leb 17 (p .first)) t))
+    let a = eqb (p .to) 7 in
+    let b = leb 17 (p .first .0) in
+    (eqb-true (p .to) 7 (and-left a b t), leb-true 17 (p .first .0) (and-right a b t))

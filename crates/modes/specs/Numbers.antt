@@ -1,10 +1,15 @@
 -- Document 01, 'What the unit carries': frame number, block number and octet number are counted apart.
 -- Eight blocks (1 to 8) are a multiframe, whose frames are 0 to 15; a frame's octets are 1 to 80.
 use mathlib.Core.Bool.{cond}
-use Prim.Native.Nat.{_+_, _-_, _*_, _%_}
+use Prim.Native.Nat.{ℕ, _+_, _-_, _*_, _%_}
 use lib.Dec.{ltb}
 use Rattle.modes.specs.declared.BlockNumber.{BlockNumber}
 use Rattle.modes.specs.declared.FrameNumber.{FrameNumber}
+use Rattle.modes.specs.declared.OctetNumber.{OctetNumber}
+
+-- octet n of a frame
+abbrev pub octet : ℕ → OctetNumber
+octet n = record { 0 = n }
 
 -- a block is two frames, even then odd: block 1 is frames 0 and 1, and block 8 is frames 14 and 15
 unfoldable pub evenFrame : BlockNumber → FrameNumber

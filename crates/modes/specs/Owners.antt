@@ -3,7 +3,9 @@ use mathlib.Core.Bool.{Bool, false, cond, _&&_, _||_}
 use Prim.Native.Nat.{ℕ, zero, suc, _+_}
 use lib.Dec.{leb, eqb}
 use Rattle.bits.specs.Bits.{digit}
+use Rattle.modes.specs.Numbers.{octet}
 use Rattle.modes.specs.Table.{scOctets, octetBitsFrom, audioPlaces, lsdPlaces}
+use Rattle.modes.specs.declared.OctetNumber.{OctetNumber}
 use Rattle.modes.specs.declared.Places.{Places}
 use Rattle.modes.specs.declared.Mode.{Mode}
 use Rattle.modes.specs.declared.Owner.{Owner}
@@ -14,22 +16,22 @@ abbrev pub within : ℕ → ℕ → ℕ → Bool
 within a b n = leb a n && leb n b
 
 -- these places have the one of this octet and this bit among them; the service channel is bit 8
-unfoldable pub holds : Places → ℕ → ℕ → Bool
-holds p octet bit = cond (eqb bit 8) (within (p .first) (p .last) octet) (within (p .from) (p .to) bit)
+unfoldable pub holds : Places → OctetNumber → ℕ → Bool
+holds p o bit = cond (eqb bit 8) (within (p .first .0) (p .last .0) (o .0)) (within (p .from) (p .to) bit)
 
 -- what each holds under a mode: the service bits are SC bits 1 to 16
 unfoldable pub heldBy : Mode → Owner → Places
-heldBy m Service = scOctets 1 16
+heldBy m Service = scOctets (octet 1) (octet 16)
 heldBy m Voice = audioPlaces (m .audio)
 heldBy m Lsd = lsdPlaces (m .lsd)
 heldBy m Nobody = octetBitsFrom 8
 
 -- the one rule for the owner of a place: the first of these that holds it. So each place of each mode has one owner
-unfoldable pub ownerOf : Mode → ℕ → ℕ → Owner
-ownerOf m octet bit =
-    cond (holds (heldBy m Service) octet bit) Service
-    (cond (holds (heldBy m Voice) octet bit) Voice
-    (cond (holds (heldBy m Lsd) octet bit) Lsd
+unfoldable pub ownerOf : Mode → OctetNumber → ℕ → Owner
+ownerOf m o bit =
+    cond (holds (heldBy m Service) o bit) Service
+    (cond (holds (heldBy m Voice) o bit) Voice
+    (cond (holds (heldBy m Lsd) o bit) Lsd
     Nobody))
 
 -- some number of 1 to n has p
@@ -44,7 +46,7 @@ count (suc n) p = p (suc n) + count n p
 
 -- some place is held by both
 unfoldable pub clash : Places → Places → Bool
-clash p q = some 80 (λ (octet : ℕ). some 8 (λ (bit : ℕ). holds p octet bit && holds q octet bit))
+clash p q = some 80 (λ (n : ℕ). some 8 (λ (bit : ℕ). holds p (octet n) bit && holds q (octet n) bit))
 
 -- audio and data overlap
 unfoldable pub overlaps : Mode → Bool
@@ -52,4 +54,4 @@ overlaps m = clash (heldBy m Voice) (heldBy m Lsd)
 
 -- how many places of a frame are held
 unfoldable pub bitsPerFrame : Places → ℕ
-bitsPerFrame p = count 80 (λ (octet : ℕ). count 8 (λ (bit : ℕ). digit (holds p octet bit)))
+bitsPerFrame p = count 80 (λ (n : ℕ). count 8 (λ (bit : ℕ). digit (holds p (octet n) bit)))

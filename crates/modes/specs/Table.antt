@@ -3,22 +3,24 @@ use mathlib.Core.Bool.{true, false, cond}
 use mathlib.Core.List.{List, [], _∷_}
 use Prim.Native.Nat.{ℕ}
 use lib.Dec.{eqb}
+use Rattle.modes.specs.Numbers.{octet}
+use Rattle.modes.specs.declared.OctetNumber.{OctetNumber}
 use Rattle.modes.specs.declared.Places.{Places}
 
 -- octet bits `from` to `to` of every octet, and the SC bit of octets `first` to `last`; a range that ends before it starts is empty
-abbrev pub bitsAndSc : ℕ → ℕ → ℕ → ℕ → Places
+abbrev pub bitsAndSc : ℕ → ℕ → OctetNumber → OctetNumber → Places
 bitsAndSc from to first last = record { listed = true; from = from; to = to; first = first; last = last }
 
 -- octet bits 1 to w; none where w is 0
 abbrev pub octetBitsTo : ℕ → Places
-octetBitsTo w = bitsAndSc 1 w 17 16
+octetBitsTo w = bitsAndSc 1 w (octet 17) (octet 16)
 
 -- octet bits a to 7; none where a is 8
 abbrev pub octetBitsFrom : ℕ → Places
-octetBitsFrom a = bitsAndSc a 7 17 16
+octetBitsFrom a = bitsAndSc a 7 (octet 17) (octet 16)
 
 -- SC octets f to l
-abbrev pub scOctets : ℕ → ℕ → Places
+abbrev pub scOctets : OctetNumber → OctetNumber → Places
 scOctets f l = bitsAndSc 8 7 f l
 
 abbrev pub notListed : Places → Places
@@ -42,14 +44,15 @@ unfoldable pub lsdTable : List (ℕ × Places)
 lsdTable =
     (0, octetBitsFrom 8)
     -- SC octets only
-    ∷ (1, scOctets 38 40) ∷ (2, scOctets 29 40) ∷ (3, scOctets 33 80) ∷ (4, scOctets 17 80)
+    ∷ (1, scOctets (octet 38) (octet 40)) ∷ (2, scOctets (octet 29) (octet 40))
+    ∷ (3, scOctets (octet 33) (octet 80)) ∷ (4, scOctets (octet 17) (octet 80))
     -- bit 7, alone and with SC octets
-    ∷ (5, octetBitsFrom 7) ∷ (6, bitsAndSc 7 7 25 40) ∷ (7, bitsAndSc 7 7 17 80)
+    ∷ (5, octetBitsFrom 7) ∷ (6, bitsAndSc 7 7 (octet 25) (octet 40)) ∷ (7, bitsAndSc 7 7 (octet 17) (octet 80))
     -- bits 6-7, 5-7, 4-7, 3-7, 2-7, 1-7
     ∷ (8, octetBitsFrom 6) ∷ (9, octetBitsFrom 5) ∷ (10, octetBitsFrom 4)
     ∷ (11, octetBitsFrom 3) ∷ (12, octetBitsFrom 2) ∷ (13, octetBitsFrom 1)
     -- bits 1-7 and SC octets
-    ∷ (14, bitsAndSc 1 7 17 80)
+    ∷ (14, bitsAndSc 1 7 (octet 17) (octet 80))
     ∷ []
 
 -- what stands beside a value, or what is said of every other

@@ -30,8 +30,8 @@ pub struct Places {
     pub listed: bool,
     pub from: u8,
     pub to: u8,
-    pub first: u8,
-    pub last: u8,
+    pub first: OctetNumber,
+    pub last: OctetNumber,
 }
 
 // Whose a place is. Lsd is the data stream.
@@ -123,8 +123,8 @@ fn audio_places(v: u8) -> Places
                 listed: true,
                 from: 1,
                 to: w,
-                first: 17,
-                last: 16,
+                first: OctetNumber(17),
+                last: OctetNumber(16),
             };
         }
     }
@@ -132,8 +132,8 @@ fn audio_places(v: u8) -> Places
         listed: false,
         from: 1,
         to: 0,
-        first: 17,
-        last: 16,
+        first: OctetNumber(17),
+        last: OctetNumber(16),
     }
 }
 
@@ -147,16 +147,16 @@ fn lsd_places(v: u8) -> Places
             listed: true,
             from: held[0],
             to: 7,
-            first: held[1],
-            last: held[2],
+            first: OctetNumber(held[1]),
+            last: OctetNumber(held[2]),
         };
     }
     Places {
         listed: false,
         from: 8,
         to: 7,
-        first: 17,
-        last: 16,
+        first: OctetNumber(17),
+        last: OctetNumber(16),
     }
 }
 
@@ -198,8 +198,8 @@ pub fn held_by(mode: Mode, owner: Owner) -> Places
             listed: true,
             from: 8,
             to: 7,
-            first: 1,
-            last: 16,
+            first: OctetNumber(1),
+            last: OctetNumber(16),
         },
         Owner::Voice => audio_places(mode.audio),
         Owner::Lsd => lsd_places(mode.lsd),
@@ -207,32 +207,32 @@ pub fn held_by(mode: Mode, owner: Owner) -> Places
             listed: true,
             from: 8,
             to: 7,
-            first: 17,
-            last: 16,
+            first: OctetNumber(17),
+            last: OctetNumber(16),
         },
     }
 }
 
-fn is_held(p: Places, octet: u8, bit: u8) -> bool
+fn is_held(p: Places, octet: OctetNumber, bit: u8) -> bool
     ensures { λ r. ⌜ r ≡ holds p octet bit ⌝ }
 {
     if bit == 8 {
-        return (p.first <= octet) & (octet <= p.last);
+        return (p.first.0 <= octet.0) & (octet.0 <= p.last.0);
     }
     (p.from <= bit) & (bit <= p.to)
 }
 
 // The owner of a place.
 pub fn owner_of(mode: Mode, octet: OctetNumber, bit: u8) -> Owner
-    ensures { λ r. ⌜ r ≡ ownerOf mode (octet .0) bit ⌝ }
+    ensures { λ r. ⌜ r ≡ ownerOf mode octet bit ⌝ }
 {
-    if is_held(held_by(mode, Owner::Service), octet.0, bit) {
+    if is_held(held_by(mode, Owner::Service), octet, bit) {
         return Owner::Service;
     }
-    if is_held(held_by(mode, Owner::Voice), octet.0, bit) {
+    if is_held(held_by(mode, Owner::Voice), octet, bit) {
         return Owner::Voice;
     }
-    if is_held(held_by(mode, Owner::Lsd), octet.0, bit) {
+    if is_held(held_by(mode, Owner::Lsd), octet, bit) {
         return Owner::Lsd;
     }
     Owner::Nobody
@@ -248,9 +248,10 @@ fn meet(a: u8, b: u8, c: u8, d: u8) -> bool
 // Whether two streams hold a place together, in an octet or in the service channel.
 fn touch(v: Places, d: Places) -> bool
     ensures { λ r. ⌜ r ≡ (leb (v .from) (v .to) && leb (d .from) (d .to) && leb (v .from) (d .to) && leb (d .from) (v .to)
-        || leb (v .first) (v .last) && leb (d .first) (d .last) && leb (v .first) (d .last) && leb (d .first) (v .last)) ⌝ }
+        || leb (v .first .0) (v .last .0) && leb (d .first .0) (d .last .0)
+        && leb (v .first .0) (d .last .0) && leb (d .first .0) (v .last .0)) ⌝ }
 {
-    meet(v.from, v.to, d.from, d.to) | meet(v.first, v.last, d.first, d.last)
+    meet(v.from, v.to, d.from, d.to) | meet(v.first.0, v.last.0, d.first.0, d.last.0)
 }
 
 // Whether audio and data overlap.
@@ -268,7 +269,7 @@ pub fn bits_per_frame(mode: Mode, owner: Owner) -> u16
 {
     let p = held_by(mode, owner);
     let columns = p.to + 1 - p.from;
-    let channel = p.last + 1 - p.first;
+    let channel = p.last.0 + 1 - p.first.0;
     (columns as u16) * 80 + (channel as u16)
 }
 

@@ -10,9 +10,11 @@ use lib.Dec.{eqb, leb, lit<}
 use borrow.Author.Tests.{leb-true, leb-false, eqb-true, le-leb, ne-eqb}
 use lib.ListN.{length, replicate, length-append, length-replicate}
 use Rattle.bits.proofs.Every.{and-left, and-right, everyBelow, below}
+use Rattle.modes.specs.Numbers.{octet}
 use Rattle.modes.specs.Table.{octetBitsFrom, notListed, lsdTable, lsdPlaces}
 use Rattle.modes.specs.Owners.{within, holds, heldBy, ownerOf}
 use Rattle.modes.specs.declared.Mode.{Mode}
+use Rattle.modes.specs.declared.OctetNumber.{OctetNumber}
 use Rattle.modes.specs.declared.Places.{Places}
 use Rattle.modes.specs.declared.Owner.{Owner}
 use Rattle.modes.specs.declared.Owner.the-variants.{Service, Voice, Lsd, Nobody}
@@ -78,18 +80,19 @@ nothing-in a b n h = go (within a b n) refl
         absurd (omega arith)
 
 -- an octet bit's owner
-column-is : (m : Mode) (octet bit : ℕ) → bit < 8
-    → ownerOf m octet bit ≡ columnOwner ((heldBy m Voice) .to) ((heldBy m Lsd) .from) bit
+column-is : (m : Mode) (o : OctetNumber) (bit : ℕ) → bit < 8
+    → ownerOf m o bit ≡ columnOwner ((heldBy m Voice) .to) ((heldBy m Lsd) .from) bit
 unfolding ownerOf holds heldBy columnOwner
-column-is m octet bit h =
+column-is m o bit h =
     rw (ne-eqb bit 8 (λ e. omega arith), nothing-in 8 7 bit (omega arith), audio-shape (m .audio) .0, lsd-shape (m .lsd) .0)
 
 -- an SC bit's owner
-channel-is : (m : Mode) (octet : ℕ) → 1 ≤ octet → ownerOf m octet 8 ≡ channelBy (layoutOf m) octet
+channel-is : (m : Mode) (o : OctetNumber) → 1 ≤ o .0 → ownerOf m o 8 ≡ channelBy (layoutOf m) (o .0)
 unfolding ownerOf holds heldBy channelBy layoutOf
-channel-is m octet h =
-    rw (le-leb 1 octet h, audio-shape (m .audio) .1, audio-shape (m .audio) .2, nothing-in 17 16 octet (omega arith))
-    (ap (λ (o : Owner). cond (leb octet 16) Service o) (both (leb ((lsdPlaces (m .lsd)) .first) octet) (leb octet ((lsdPlaces (m .lsd)) .last))))
+channel-is m o h =
+    rw (le-leb 1 (o .0) h, audio-shape (m .audio) .1, audio-shape (m .audio) .2, nothing-in 17 16 (o .0) (omega arith))
+    (ap (λ (p : Owner). cond (leb (o .0) 16) Service p)
+    (both (leb ((lsdPlaces (m .lsd)) .first .0) (o .0)) (leb (o .0) ((lsdPlaces (m .lsd)) .last .0))))
   where
     both : (a b : Bool) → cond (a && b) Lsd Nobody ≡ cond a (cond b Lsd Nobody) Nobody
     both true b = refl
@@ -103,37 +106,37 @@ held-from : (m : Mode) → (1 ≤ (heldBy m Lsd) .from) × ((heldBy m Lsd) .from
 unfolding heldBy
 held-from m = (lsd-fit (m .lsd) .starts, omega (arith, lsd-fit (m .lsd) .spans, lsd-fit (m .lsd) .ends))
 
-eight : (m : Mode) (octet : ℕ) → 1 ≤ octet
-    → row m octet ≡ sevenBy ((heldBy m Voice) .to) ((heldBy m Lsd) .from) ++ (channelBy (layoutOf m) octet ∷ [])
+eight : (m : Mode) (o : OctetNumber) → 1 ≤ o .0
+    → row m o ≡ sevenBy ((heldBy m Voice) .to) ((heldBy m Lsd) .from) ++ (channelBy (layoutOf m) (o .0) ∷ [])
 unfolding row sevenBy
-eight m octet h =
+eight m o h =
     rw (
-      column-is m octet 1 (lit< tt),
-      column-is m octet 2 (lit< tt),
-      column-is m octet 3 (lit< tt),
-      column-is m octet 4 (lit< tt),
-      column-is m octet 5 (lit< tt),
-      column-is m octet 6 (lit< tt),
-      column-is m octet 7 (lit< tt),
-      channel-is m octet h,
+      column-is m o 1 (lit< tt),
+      column-is m o 2 (lit< tt),
+      column-is m o 3 (lit< tt),
+      column-is m o 4 (lit< tt),
+      column-is m o 5 (lit< tt),
+      column-is m o 6 (lit< tt),
+      column-is m o 7 (lit< tt),
+      channel-is m o h,
     )
 
 columns-are : (m : Mode) → sevenBy ((heldBy m Voice) .to) ((heldBy m Lsd) .from) ≡ columnsBy (layoutOf m)
 unfolding layoutOf columnsBy columnsAs
 columns-are m = seven ((heldBy m Voice) .to) ((heldBy m Lsd) .from) (held-width m) (held-from m .0) (held-from m .1)
 
-pub row-is : (m : Mode) (octet : ℕ) → 1 ≤ octet → row m octet ≡ rowBy (layoutOf m) octet
+pub row-is : (m : Mode) (o : OctetNumber) → 1 ≤ o .0 → row m o ≡ rowBy (layoutOf m) (o .0)
 unfolding rowBy
-row-is m octet h = eight m octet h ∙ ap (λ (l : List Owner). l ++ (channelBy (layoutOf m) octet ∷ [])) (columns-are m)
+row-is m o h = eight m o h ∙ ap (λ (l : List Owner). l ++ (channelBy (layoutOf m) (o .0) ∷ [])) (columns-are m)
 
 pub rows-are : (m : Mode) (n : ℕ) → rows m n ≡ rowsBy (layoutOf m) n
 unfolding rows rowsBy
 rows-are m zero = refl
-rows-are m (suc n) = ap₂ _++_ (rows-are m n) (row-is m (suc n) (omega arith))
+rows-are m (suc n) = ap₂ _++_ (rows-are m n) (row-is m (octet (suc n)) (omega arith))
 
 -- data's SC octets are whole eights, or it has no column: each row of the table
 abbrev inPlace : Places → Bool
-inPlace p = eqb (p .from) 8 || (eqb (p .first % 8) 1 && eqb (p .last % 8) 0)
+inPlace p = eqb (p .from) 8 || (eqb (p .first .0 % 8) 1 && eqb (p .last .0 % 8) 0)
 
 lsd-even : (m : Mode) → ((layoutOf m) .columns ≡ 0) ⊎ (inEights (layoutOf m) ≡ true)
 unfolding layoutOf inEights heldBy lsdPlaces lsdTable
@@ -142,7 +145,7 @@ lsd-even m = go (eqb ((lsdPlaces (m .lsd)) .from) 8) refl (beside-all inPlace ls
     p : Places
     p = lsdPlaces (m .lsd)
 
-    go : (b : Bool) → eqb (p .from) 8 ≡ b → (b || (eqb (p .first % 8) 1 && eqb (p .last % 8) 0)) ≡ true
+    go : (b : Bool) → eqb (p .from) 8 ≡ b → (b || (eqb (p .first .0 % 8) 1 && eqb (p .last .0 % 8) 0)) ≡ true
         → ((layoutOf m) .columns ≡ 0) ⊎ (inEights (layoutOf m) ≡ true)
     go true e t = let f : p .from ≡ 8 = eqb-true (p .from) 8 e in inl (omega (arith, f))
     go false e t = inr t

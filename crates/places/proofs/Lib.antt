@@ -1,3 +1,4 @@
 pub mod StreamLaws
 pub mod LayoutLaws
+pub mod CountLaws
 pub mod LengthLaws

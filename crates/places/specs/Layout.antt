@@ -18,7 +18,7 @@ unfoldable pub layoutOf : Mode → Layout
 layoutOf m =
     let voice = heldBy m Voice in
     let lsd = heldBy m Lsd in
-    record { width = voice .to; columns = min (8 - lsd .from) (7 - voice .to); first = lsd .first; last = lsd .last }
+    record { width = voice .to; columns = min (8 - lsd .from) (7 - voice .to); first = lsd .first .0; last = lsd .last .0 }
 
 unfoldable pub columnsBy : Layout → List Owner
 columnsBy p = replicate (p .width) Voice ++ replicate (7 - (p .width + p .columns)) Nobody ++ replicate (p .columns) Lsd

@@ -3,20 +3,22 @@ use mathlib.Core.Bool.{Bool, _&&_}
 use mathlib.Core.List.{List, [], _∷_, _++_}
 use Prim.Native.Nat.{ℕ, zero, suc}
 use lib.Dec.{eqb}
+use Rattle.modes.specs.Numbers.{octet}
 use Rattle.modes.specs.Owners.{ownerOf}
 use Rattle.modes.specs.declared.Mode.{Mode}
+use Rattle.modes.specs.declared.OctetNumber.{OctetNumber}
 use Rattle.modes.specs.declared.Owner.{Owner}
 
 -- the eight places of an octet, bit 1 first
-unfoldable pub row : Mode → ℕ → List Owner
-row m octet =
-    ownerOf m octet 1 ∷ ownerOf m octet 2 ∷ ownerOf m octet 3 ∷ ownerOf m octet 4
-    ∷ ownerOf m octet 5 ∷ ownerOf m octet 6 ∷ ownerOf m octet 7 ∷ ownerOf m octet 8 ∷ []
+unfoldable pub row : Mode → OctetNumber → List Owner
+row m o =
+    ownerOf m o 1 ∷ ownerOf m o 2 ∷ ownerOf m o 3 ∷ ownerOf m o 4
+    ∷ ownerOf m o 5 ∷ ownerOf m o 6 ∷ ownerOf m o 7 ∷ ownerOf m o 8 ∷ []
 
 -- the places of octets 1 to n, in sending order
 unfoldable pub rows : Mode → ℕ → List Owner
 rows m zero = []
-rows m (suc n) = rows m n ++ row m (suc n)
+rows m (suc n) = rows m n ++ row m (octet (suc n))
 
 -- the 640 places of a frame
 unfoldable pub places : Mode → List Owner

@@ -25,15 +25,15 @@ pub fn layout_of(mode: Mode) -> Layout
         return Layout {
             width: voice.to,
             columns: wanted,
-            first: lsd.first,
-            last: lsd.last,
+            first: lsd.first.0,
+            last: lsd.last.0,
         };
     }
     Layout {
         width: voice.to,
         columns: left,
-        first: lsd.first,
-        last: lsd.last,
+        first: lsd.first.0,
+        last: lsd.last.0,
     }
 }
 

@@ -70,34 +70,32 @@ frame-sc p bs vs ds o h l =
 
 -- ---- both halves
 module _ (m : Mode) (h : Header) (mute : Bool) (voice lsd : List ℕ) where
-  p : Layout
+  abbrev p : Layout
   p = layoutOf m
 
-  vs : List Bool
+  abbrev vs : List Bool
   vs = heard mute (bitsOf voice)
 
-  ds : List Bool
+  abbrev ds : List Bool
   ds = bitsOf lsd
 
-  even : List ℕ
+  abbrev even : List ℕ
   even = frameBy p (streams (serviceBits h) vs ds)
 
-  odds : List ℕ
+  abbrev odds : List ℕ
   odds = frameBy p (streams (drop 16 (serviceBits h)) (drop (80 * p .width) vs) (drop (80 * p .columns + sc p 80) ds))
 
-  halves : blockOf m h mute voice lsd ≡ even ++ odds
-  unfolding p vs ds even odds
+  pub halves : blockOf m h mute voice lsd ≡ even ++ odds
   halves =
       sym (block-is m h mute voice lsd) ∙ two-frames (layoutOf m) (sources h mute voice lsd) (apart-of m .within)
       ∙ ap (λ (s : Streams). frameBy (layoutOf m) (sources h mute voice lsd) ++ frameBy (layoutOf m) s)
       (rest-frame (layoutOf m) (serviceBits h) (heard mute (bitsOf voice)) (bitsOf lsd) (apart-of m))
 
-  length-even : length even ≡ 80
-  unfolding even frameBy
+  pub length-even : length even ≡ 80
+  unfolding frameBy
   length-even = length-octets 80 _
 
   pub even-back : channelBits 16 0 (blockOf m h mute voice lsd) ≡ take 16 (serviceBits h)
-  unfolding even p
   even-back =
       channel-ext 16 0 (blockOf m h mute voice lsd) (take 16 (serviceBits h)) (length-take-le 16 (serviceBits h) (omega (arith, length-service h)))
       (λ k l.
@@ -108,7 +106,6 @@ module _ (m : Mode) (h : Header) (mute : Bool) (voice lsd : List ℕ) where
       ∙ sym (getD-take 16 (serviceBits h) k true l))
 
   pub odd-back : channelBits 16 80 (blockOf m h mute voice lsd) ≡ drop 16 (serviceBits h)
-  unfolding odds p
   odd-back =
       channel-ext 16 80 (blockOf m h mute voice lsd) (drop 16 (serviceBits h)) (rw (length-drop, length-service h))
       (λ k l.

@@ -91,11 +91,18 @@ module _ (m : Mode) (h : Header) (mute : Bool) (voice lsd : List ℕ) where
   front-length : length (even ++ take 8 word) ≡ 16
   front-length = rw (length-append, length-take-le 8 word (omega (arith, length-line (wordBits (h .code)))))
 
+  -- the service bits of each frame
+  pub even-service : take 16 (serviceBits h) ≡ even ++ take 8 word
+  even-service = ap (take 16) service-rows ∙ take-at (even ++ take 8 word) (odds ++ drop 8 word) 16 front-length
+
+  pub odd-service : drop 16 (serviceBits h) ≡ odds ++ drop 8 word
+  odd-service = ap (drop 16) service-rows ∙ drop-at (even ++ take 8 word) (odds ++ drop 8 word) 16 front-length
+
   even-bits : channelBits 16 0 line ≡ even ++ take 8 word
-  even-bits = even-back m h mute voice lsd ∙ ap (take 16) service-rows ∙ take-at (even ++ take 8 word) (odds ++ drop 8 word) 16 front-length
+  even-bits = even-back m h mute voice lsd ∙ even-service
 
   odd-bits : channelBits 16 80 line ≡ odds ++ drop 8 word
-  odd-bits = odd-back m h mute voice lsd ∙ ap (drop 16) service-rows ∙ drop-at (even ++ take 8 word) (odds ++ drop 8 word) 16 front-length
+  odd-bits = odd-back m h mute voice lsd ∙ odd-service
 
   pub alignment-back : alignmentBits line ≡ evenAlignment ++ (true ∷ [])
   unfolding alignmentBits lowBits

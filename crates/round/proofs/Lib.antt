@@ -1,3 +1,4 @@
 pub mod BackLaws
 pub mod HeaderLaws
+pub mod SumLaws
 pub mod RoundLaws

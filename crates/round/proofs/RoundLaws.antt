@@ -15,33 +15,12 @@ use Rattle.modes.specs.declared.Owner.the-variants.{Voice, Lsd}
 use Rattle.places.specs.Streams.{Streams, count, fill, sort, nexts}
 use Rattle.places.specs.Places.{places}
 use Rattle.frame.specs.Block.{heard, sources, blockOf}
-use Rattle.places.specs.Layout.{layoutOf, rowsBy}
+use Rattle.places.specs.Layout.{layoutOf}
 use Rattle.frame.specs.declared.Header.{Header}
-use Rattle.places.proofs.StreamLaws.{sorted, count-append, length-fill, nexts-take}
-use Rattle.places.proofs.LayoutLaws.{rows-are, apart-of, count-voice, count-lsd, length-rows}
+use Rattle.places.proofs.StreamLaws.{sorted, length-fill, nexts-take}
+use Rattle.places.proofs.LayoutLaws.{apart-of}
+use Rattle.places.proofs.CountLaws.{length-both, voice-places, lsd-places}
 use Rattle.sorter.specs.Sorting.{sortedOf}
-
--- ---- how many places a block has, and of them voice and data
-places-by : (m : Mode) → places m ≡ rowsBy (layoutOf m) 80
-unfolding places
-places-by m = rows-are m 80
-
-length-both : (m : Mode) → length (places m ++ places m) ≡ 160 * 8
-length-both m = rw (length-append, places-by m, length-rows (layoutOf m) 80 (apart-of m .within))
-
-count-both : (o : Owner) (m : Mode) → count o (places m ++ places m) ≡ 2 * count o (rowsBy (layoutOf m) 80)
-count-both o m =
-    count-append o (places m) (places m)
-    ∙ ap (λ (ps : List Owner). count o ps + count o ps) (places-by m)
-    ∙ omega arith
-
-voice-places : (m : Mode) → count Voice (places m ++ places m) ≡ 160 * (layoutOf m) .width
-voice-places m = count-both Voice m ∙ omega (arith, count-voice (layoutOf m) 80)
-
-lsd-places : (m : Mode) → count Lsd (places m ++ places m) ≤ 1248
-lsd-places m =
-    let a = apart-of m in
-    omega (arith, count-both Lsd m, count-lsd (layoutOf m) 80 a, a .within, a .after, a .until)
 
 -- ---- the bits at an owner's places are the next bits of its stream, ones where it has none
 pub round-trip : (o : Owner) (m : Mode) (h : Header) (mute : Bool) (vs ds : List ℕ)

@@ -4,6 +4,7 @@ use mathlib.Core.List.{List, [], _∷_, _++_}
 use Prim.Native.Nat.{ℕ, zero, suc, _+_}
 use lib.ListN.{getD}
 use Rattle.bits.specs.Bits.{odd, number, xors}
+use Rattle.bits.specs.Crc.{firstC, howManyC}
 use Rattle.bas.specs.Words.{lineOrder}
 use Rattle.bas.specs.Reading.{weight}
 use Rattle.service.specs.Service.{evenAlignment}
@@ -27,7 +28,7 @@ oddFirst line = odd (getD line 80 0)
 
 -- C1 to C4, C1 highest
 unfoldable pub cBits : List ℕ → ℕ
-cBits line = number (channelBits 4 (80 + 4) line)
+cBits line = number (channelBits howManyC firstC line)
 
 -- the BAS word back in its natural order, as a number
 unfoldable pub basWord : List ℕ → ℕ

@@ -11,19 +11,15 @@ use Rattle.modes.specs.Commands.{mode, inRange, commandOf, followed}
 use Rattle.modes.specs.declared.Mode.{Mode}
 use Rattle.modes.specs.declared.Command.{Command}
 use Rattle.modes.specs.declared.Command.the-variants.{Neutral, SetAudio, SetLsd, NoEffect}
-use Rattle.modes.proofs.ModeLaws.{Ranged, ranged, in-range, audio-code, lsd-code, audio-small, lsd-small, off-ranged}
+use Rattle.modes.proofs.ModeLaws.{Ranged, ranged, in-range, audio-code, lsd-code, audio-small, audio-off-apart, off-ranged}
 use Rattle.slots.specs.Readings.{obeyed}
 use Rattle.slots.specs.declared.Reading.{Reading}
 use Rattle.slots.specs.declared.Reading.the-variants.{Mended, Item, MessageWord, ForbiddenItem, NotFollowed, Unreadable, NotRead}
 
--- nothing overlaps data off, nor audio off: antt computes it at each value
+-- nothing overlaps data off: antt computes it at each value
 lsd-off-apart : (v : ℕ) → v < 32 → overlaps (mode v lsdOff) ≡ false
 unfolding audioPlaces audioTable lsdPlaces lsdTable beside overlaps clash some holds heldBy
 lsd-off-apart v small = not-true _ (below 32 (λ (k : ℕ). not (overlaps (mode k lsdOff))) refl v small)
-
-pub audio-off-apart : (v : ℕ) → v < 15 → overlaps (mode audioOff v) ≡ false
-unfolding audioPlaces audioTable lsdPlaces lsdTable beside overlaps clash some holds heldBy
-audio-off-apart v small = not-true _ (below 15 (λ (k : ℕ). not (overlaps (mode audioOff k))) refl v small)
 
 module _ (code : ℕ) (m : Mode) (r : Ranged m) where
   by-command : (command : Command) → commandOf code ≡ command → Ranged (followed command m)
@@ -43,7 +39,7 @@ module _ (code : ℕ) (m : Mode) (r : Ranged m) where
       go : (b : Bool) → overlaps (mode (m .audio) v) ≡ b → Ranged (cond b (mode audioOff v) (mode (m .audio) v))
       go true o =
           let d = lsd-code code v e in
-          record { spoken = off-ranged .spoken; named = off-ranged .named; given = d .listed; apart = audio-off-apart v (lsd-small v (d .listed)) }
+          record { spoken = off-ranged .spoken; named = off-ranged .named; given = d .listed; apart = audio-off-apart v }
       go false o =
           let d = lsd-code code v e in
           record { spoken = r .spoken; named = r .named; given = d .listed; apart = o }

@@ -1,5 +1,6 @@
 -- `bits::summed_octet` meets its contract: each return follows from the tests that led there.
-use borrow.Author.Tests.{le-leb, lt-leb}
+use native.Mathlib.Omega.{arith}
+use borrow.Author.Tests.{le-leb, lt-leb, lt-ltb, le-ltb}
 use Rattle.bits.specs.Crc.{summed}
 use borrow.Author.Needs.{needs}
 use Rattle.bits.proofs.summed_octet.Statement.{statement}
@@ -10,11 +11,11 @@ mul-result c = search needs
 
 returns : tie.Need-returns
 unfolding summed
-returns c = simp (le-leb _ _ (c .before .if1 .taken), le-leb _ _ (c .if2 .taken))
+returns c = simp (le-leb _ _ (c .before .if1 .taken), lt-ltb (c .before .before .args .at) 88 (omega arith))
 
 returns-2 : tie.Need-returns-2
 unfolding summed
-returns-2 c = simp (le-leb _ _ (c .before .if1 .taken), lt-leb _ _ (c .if2 .left))
+returns-2 c = simp (le-leb _ _ (c .before .if1 .taken), le-ltb (c .before .before .args .at) 88 (omega arith))
 
 returns-3 : tie.Need-returns-3
 unfolding summed

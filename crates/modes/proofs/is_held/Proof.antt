@@ -6,7 +6,7 @@ use Rattle.modes.proofs.is_held.Tie as tie
 
 returns : tie.Need-returns
 unfolding holds
-returns c = rw (eq-eqb _ _ (c .before .before .if1 .taken))
+returns c = rw (eq-eqb _ _ (c .before .before .before .before .if1 .taken))
 
 returns-2 : tie.Need-returns-2
 unfolding holds

@@ -4,6 +4,7 @@ use mathlib.Core.List.{List, []}
 use Prim.Native.Nat.{ℕ, _<_}
 use lib.ListN.{getD}
 use Rattle.bits.proofs.Table.{entry}
+use Rattle.modes.specs.Numbers.{octet}
 use Rattle.modes.specs.Table.{lsdTable, beside, bitsAndSc, lsdPlaces}
 use Rattle.modes.proofs.TableLaws.{lsd-past, lsdEntry, lsd-said}
 use borrow.Author.Needs.{needs}
@@ -22,15 +23,15 @@ array-read-t27 c = search needs
 array-read-t30 : tie.Need-array-read-t30
 array-read-t30 c = search needs
 
-array-read-t33 : tie.Need-array-read-t33
-array-read-t33 c = search needs
+array-read-t34 : tie.Need-array-read-t34
+array-read-t34 c = search needs
 
 returns : tie.Need-returns
 unfolding lsdEntry lsdPlaces lsdTable beside
 returns c =
     let v = c .before .before .args .v in
     let h : v < 15 = c .before .if1 .taken in
-    ap (λ (row : List ℕ). bitsAndSc (getD row 0 0) 7 (getD row 1 0) (getD row 2 0)) (entry 15 lsdEntry [] v h) ∙ lsd-said v h
+    ap (λ (row : List ℕ). bitsAndSc (getD row 0 0) 7 (octet (getD row 1 0)) (octet (getD row 2 0))) (entry 15 lsdEntry [] v h) ∙ lsd-said v h
 
 returns-2 : tie.Need-returns-2
 returns-2 c = sym (lsd-past _ (c .if1 .left))
@@ -43,6 +44,6 @@ lsd-places-spec =
     array-copy-out-held
     array-read-t27
     array-read-t30
-    array-read-t33
+    array-read-t34
     returns
     returns-2)

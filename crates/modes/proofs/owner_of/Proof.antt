@@ -3,14 +3,15 @@ use mathlib.Core.Path.{_≡_, sym, ap, _∙_}
 use mathlib.Core.Bool.{Bool}
 use Prim.Native.Nat.{ℕ}
 use Rattle.modes.specs.Owners.{holds, ownerOf}
+use Rattle.modes.specs.declared.OctetNumber.{OctetNumber}
 use Rattle.modes.specs.declared.Places.{Places}
 use borrow.Author.Needs.{needs}
 use Rattle.modes.proofs.owner_of.Statement.{statement}
 use Rattle.modes.proofs.owner_of.Tie as tie
 
 -- what a test of a place has shown of the definition
-shown : (p q : Places) (octet bit : ℕ) (r b : Bool) → p ≡ q → r ≡ holds p octet bit → r ≡ b → holds q octet bit ≡ b
-shown p q octet bit r b e h t = sym (ap (λ (x : Places). holds x octet bit) e) ∙ sym h ∙ t
+shown : (p q : Places) (o : OctetNumber) (bit : ℕ) (r b : Bool) → p ≡ q → r ≡ holds p o bit → r ≡ b → holds q o bit ≡ b
+shown p q o bit r b e h t = sym (ap (λ (x : Places). holds x o bit) e) ∙ sym h ∙ t
 
 held-by-requires : tie.Need-held-by-requires
 held-by-requires c κs = search needs

@@ -13,11 +13,11 @@ use Rattle.places.proofs.layout_of.Statement.{statement}
 use Rattle.places.proofs.layout_of.Tie as tie
 
 laid : (m : Mode) (v d : Places) (n : ℕ) → v ≡ heldBy m Voice → d ≡ heldBy m Lsd → n ≡ min (8 - d .from) (7 - v .to)
-    → record { width = v .to; columns = n; first = d .first; last = d .last } ≡ layoutOf m
+    → record { width = v .to; columns = n; first = d .first .0; last = d .last .0 } ≡ layoutOf m
 unfolding layoutOf
 laid m v d n ev ed en =
-    ap (λ (k : ℕ). record { width = v .to; columns = k; first = d .first; last = d .last }) en
-    ∙ ap₂ (λ (x y : Places). record { width = x .to; columns = min (8 - y .from) (7 - x .to); first = y .first; last = y .last }) ev ed
+    ap (λ (k : ℕ). record { width = v .to; columns = k; first = d .first .0; last = d .last .0 }) en
+    ∙ ap₂ (λ (x y : Places). record { width = x .to; columns = min (8 - y .from) (7 - x .to); first = y .first .0; last = y .last .0 }) ev ed
 
 held-by-requires : tie.Need-held-by-requires
 held-by-requires c κs = search needs
