@@ -1,10 +1,18 @@
--- A session over the lent state is a session by value, in the numbers that cross to C.
+-- A session over the lent state is a session by value, and a block read in C is a block read, in the numbers that cross to C.
 use mathlib.Core.Path.{_≡_, refl, sym, ap, _∙_}
 use mathlib.Core.List.{List, [], _∷_, map}
+use Rattle.slots.specs.Readings.{readingKind, readingCode}
 use Rattle.sender.specs.declared.Sender.{Sender}
+use Rattle.reader.specs.Parts.{standingNumber, verdictNumber}
+use Rattle.reader.specs.Step.{outcomeOf}
+use Rattle.reader.specs.declared.Answer.the-variants.{Block}
+use Rattle.reader.proofs.OutcomeLaws.{told}
 use Rattle.card.specs.Sending.{sent, lineSent}
-use Rattle.lesson.specs.Session.{turned, run}
-use Rattle.lesson.specs.Lent.{Given, LeftInC, LeavesInC, AllowedInC, turnOf, inC, LentIsSession, LentSilence}
+use Rattle.card.specs.Reading.{readAnswerOf}
+use Rattle.card.specs.declared.ReadAnswer.{ReadAnswer}
+use Rattle.card.specs.declared.ReadOutcome.{ReadOutcome}
+use Rattle.lesson.specs.Session.{turned, run, blockSent}
+use Rattle.lesson.specs.Lent.{Given, LeftInC, LeavesInC, AllowedInC, turnOf, inC, LentIsSession, LentSilence, ReadBackInC}
 use Rattle.lesson.proofs.SilenceLaws.{run-allowed, silence}
 
 -- what one call leaves is what the same call by value leaves
@@ -30,3 +38,19 @@ lent-silence s xs ys ls ms h k alike =
     let q = run s (map turnOf ys) in
     let same : p ≡ q = silence s (map turnOf xs) (map turnOf ys) p q (run-allowed s (map turnOf xs)) (run-allowed s (map turnOf ys)) alike in
     lent-run s xs ls h ∙ ap (map inC) same ∙ sym (lent-run s ys ms k)
+
+pub read-back-in-C : ReadBackInC
+read-back-in-C e r b voice lsd o v d hv hd (eo, ev, ed) =
+    let h = b .hands voice lsd (outcomeOf r (blockSent e) voice lsd) v d hv hd (told r (blockSent e) voice lsd _ v d refl ev ed) in
+    let is : o .answer ≡ readAnswerOf (Block (h .report)) = ap (λ (q : ReadOutcome). q .answer) eo ∙ ap readAnswerOf (h .answer) in
+    record {
+      accepted = (ap (λ (q : ReadAnswer). q .kind) is, ap (λ (q : ReadAnswer). q .number) is);
+      read = ap (λ (q : ReadAnswer). q .block .standing) is ∙ ap standingNumber (h .read);
+      kind = ap (λ (q : ReadAnswer). q .block .reading) is ∙ ap readingKind (h .word);
+      code = ap (λ (q : ReadAnswer). q .block .code) is ∙ ap readingCode (h .word);
+      first = λ z. ap (λ (q : ReadAnswer). q .block .verdict) is ∙ ap verdictNumber (h .first z);
+      good = λ a. ap (λ (q : ReadAnswer). q .block .verdict) is ∙ ap verdictNumber (h .good a);
+      heard = h .heard;
+      given = h .given;
+      state = ap (λ (q : ReadOutcome). q .state) eo ∙ h .state;
+    }

@@ -1,12 +1,23 @@
--- Sessions over the lent state: what `delampuk_send` leaves of calls one after the other is what a session of `sender::send` leaves, in
--- the numbers that cross to C. So demands 2 and 3 hold of the lent state.
+-- Demands 2 and 3 at the boundary. What `delampuk_send` leaves of calls over one lent state is what a session of `sender::send` leaves, in
+-- the numbers that cross to C; and what `delampuk_read` gives of a block is what a reader in step hands back, in these numbers.
 use mathlib.Core.Path.{_≡_}
 use mathlib.Core.List.{List, [], _∷_, map}
 use Prim.Native.Nat.{ℕ}
+use lib.ListN.{length}
+use Rattle.bits.specs.Bits.{octets}
+use Rattle.bas.specs.declared.Word.the-variants.{Code}
+use Rattle.slots.specs.Readings.{readingIn, readingKind, readingCode}
 use Rattle.sender.specs.declared.Sender.{Sender}
+use Rattle.reader.specs.Parts.{standingNumber, verdictNumber}
+use Rattle.reader.specs.declared.Reader.{Reader}
+use Rattle.reader.specs.declared.Standing.the-variants.{Read}
+use Rattle.reader.specs.declared.Verdict.the-variants.{None, Good}
 use Rattle.card.specs.Sending.{sendAnswerOf, SendTold}
+use Rattle.card.specs.Reading.{ReadTold}
+use Rattle.card.specs.declared.ReadOutcome.{ReadOutcome}
 use Rattle.card.specs.declared.SendAnswer.{SendAnswer}
-use Rattle.lesson.specs.Session.{Turn, Left, Allowed}
+use Rattle.lesson.specs.Session.{Turn, Left, Allowed, Entry, blockSent}
+use Rattle.lesson.specs.Demand2.{wordDue, wordOf, Agrees, readerAfter, voiceBits, lsdBits, Back}
 use Rattle.lesson.specs.Demand3.{Alike}
 use Rattle.lesson.specs.EntryPoints.{callInC}
 
@@ -55,3 +66,21 @@ LentIsSession = (s : Sender) (xs : List Given) (ls : List LeftInC) → AllowedIn
 abbrev pub LentSilence : Type 0
 LentSilence = (s : Sender) (xs ys : List Given) (ls ms : List LeftInC) → AllowedInC s xs ls → AllowedInC s ys ms
     → Alike s (map turnOf xs) (map turnOf ys) → ls ≡ ms
+
+-- ---- reading
+-- what a reader in step hands back of a block, in numbers: the block is read, its word is the word sent under the reading that its slot gives
+-- it, voice and data are the sender's, and every verdict but a first is good once the remainder agrees
+pub record BackInC (e : Entry) (r : Reader) (o : ReadOutcome) (voice lsd : List ℕ) : Type 0 where
+  pub accepted : (o .answer .kind ≡ 0) × (o .answer .number ≡ 0)
+  pub read : o .answer .block .standing ≡ standingNumber Read
+  pub kind : o .answer .block .reading ≡ readingKind (readingIn (wordDue (e .found)) (Code (wordOf e)))
+  pub code : o .answer .block .code ≡ readingCode (readingIn (wordDue (e .found)) (Code (wordOf e)))
+  pub first : r .before ≡ 0 → o .answer .block .verdict ≡ verdictNumber None
+  pub good : Agrees (e .found) r → o .answer .block .verdict ≡ verdictNumber Good
+  pub heard : voice ≡ octets 140 (voiceBits e)
+  pub given : lsd ≡ octets 156 (lsdBits e)
+  pub state : o .state ≡ readerAfter r e
+
+abbrev pub ReadBackInC : Type 0
+ReadBackInC = (e : Entry) (r : Reader) → Back e r → (voice lsd : List ℕ) (o : ReadOutcome) (v d : List ℕ) → length voice ≡ 140 → length lsd ≡ 156
+    → ReadTold r (blockSent e) voice lsd o v d → BackInC e r o v d
