@@ -21,13 +21,14 @@ use Rattle.places.specs.Layout.{layoutOf, channelBy, sc, Apart}
 use Rattle.places.specs.declared.Layout.{Layout}
 use Rattle.places.proofs.LayoutLaws.{apart-of}
 use Rattle.service.specs.Service.{oddRow}
+use Rattle.service.specs.Channel.{cBits}
 use Rattle.frame.specs.Block.{serviceBits, heard, streams, blockOf}
 use Rattle.frame.specs.Frame.{frameBy}
 use Rattle.frame.specs.declared.Header.{Header}
 use Rattle.frame.proofs.OctetLaws.{octet-at, channel-next, channel-service, channel-unserved}
 use Rattle.frame.proofs.WrittenLaws.{octet-done}
 use Rattle.round.proofs.BackLaws.{halves, length-even}
-use Rattle.round.proofs.HeaderLaws.{oddBit, even-service, odd-service}
+use Rattle.round.proofs.HeaderLaws.{oddBit, even-service, odd-service, remainder-back}
 
 -- ---- octet k + 1 of a frame, by the service bits that the frame is filled from
 module _ (p : Layout) (h : Apart p) (vs ds : List Bool) where
@@ -173,9 +174,14 @@ module _ (m : Mode) (h : Header) (r : ℕ) (mute : Bool) (voice lsd : List ℕ) 
           omega (arith, length-append (evenHalf h) (oddHalf h), length-even m h mute voice lsd, length-odd h) in
           rw (← whole) (ap (summed (80 + k)) (odd-at h k) ∙ odd-same k short ∙ sym (ap (summed (80 + k)) (odd-at g k)))
 
-  -- 'CRC-4', C1 to C4 taken as 0: whatever remainder r they carry, which `remainder-back` reads back, the block has one remainder of its own
+  -- 'CRC-4', C1 to C4 taken as 0: whatever remainder r they carry, the block has one remainder of its own
   pub crc-without-c : blockCrcOf (blockOf m h mute voice lsd) ≡ blockCrcOf (blockOf m g mute voice lsd)
   crc-without-c =
       ap blockCrcOf (halves m h mute voice lsd)
       ∙ crc-agree (evenHalf h ++ oddHalf h) (evenHalf g ++ oddHalf g) same-length each
       ∙ sym (ap blockCrcOf (halves m g mute voice lsd))
+
+  -- so what the CRC-4 takes as 0, what the rows carry and what the reader reads are one: a block that carries r is read as carrying r, and has
+  -- the remainder that it has with any other
+  pub c-joined : r < 16 → (cBits (blockOf m g mute voice lsd) ≡ r) × (blockCrcOf (blockOf m g mute voice lsd) ≡ blockCrcOf (blockOf m h mute voice lsd))
+  c-joined small = (remainder-back m g mute voice lsd small, sym crc-without-c)
