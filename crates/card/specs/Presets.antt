@@ -1,7 +1,7 @@
 -- Document 01, 'Preset': a preset read and written, in the numbers that cross to C.
-use Rattle.sender.specs.Presets.{presetNumber, writtenNumber, writtenBits}
-use Rattle.sender.specs.declared.PresetRead.{PresetRead}
-use Rattle.sender.specs.declared.PresetWritten.{PresetWritten}
+use Rattle.presets.specs.Presets.{presetNumber, writtenNumber, writtenBits}
+use Rattle.presets.specs.declared.PresetRead.{PresetRead}
+use Rattle.presets.specs.declared.PresetWritten.{PresetWritten}
 use Rattle.card.specs.declared.PresetOutcome.{PresetOutcome}
 use Rattle.card.specs.declared.PresetBits.{PresetBits}
 

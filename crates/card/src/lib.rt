@@ -6,7 +6,7 @@ ghost use Rattle.modes.specs.Commands.{mode};
 ghost use Rattle.slots.specs.Readings.{readingKind, readingCode};
 ghost use Rattle.search.specs.Finding.{searchOf};
 ghost use Rattle.sender.specs.State.{freshWith};
-ghost use Rattle.sender.specs.Presets.{presetRead, presetWritten, presetNumber};
+ghost use Rattle.presets.specs.Presets.{presetRead, presetWritten, presetNumber};
 ghost use Rattle.reader.specs.State.{freshIn};
 ghost use Rattle.reader.specs.Parts.{standingNumber, verdictNumber};
 ghost use Rattle.text.specs.Over.{Written};
@@ -182,12 +182,12 @@ pub extern "C" fn delampuk_fresh_sender() -> Sender
     sender::fresh()
 }
 
-fn preset_number(answer: sender::PresetAnswer) -> u8
+fn preset_number(answer: presets::PresetAnswer) -> u8
     ensures { λ r. ⌜ r ≡ presetNumber answer ⌝ }
 {
     match answer {
-        sender::PresetAnswer::Read => 0,
-        sender::PresetAnswer::Unread(why) => sender::number_of(why),
+        presets::PresetAnswer::Read => 0,
+        presets::PresetAnswer::Unread(why) => sender::number_of(why),
     }
 }
 
@@ -196,7 +196,7 @@ fn preset_number(answer: sender::PresetAnswer) -> u8
 pub extern "C" fn delampuk_read_preset(bits: u16) -> PresetOutcome
     ensures { λ r. ⌜ r ≡ presetOutcomeOf (presetRead bits) ⌝ }
 {
-    let read = sender::read_preset(bits);
+    let read = presets::read_preset(bits);
     let state = read.state;
     let answer = read.answer;
     let number = preset_number(answer);
@@ -212,13 +212,13 @@ pub extern "C" fn delampuk_read_preset(bits: u16) -> PresetOutcome
 pub extern "C" fn delampuk_write_preset(state: Sender) -> PresetBits
     ensures { λ r. ⌜ r ≡ presetBitsOf (presetWritten state) ⌝ }
 {
-    let written = sender::write_preset(state);
+    let written = presets::write_preset(state);
     match written {
-        sender::PresetWritten::Bits(bits) => PresetBits {
+        presets::PresetWritten::Bits(bits) => PresetBits {
             bits: bits,
             number: 0,
         },
-        sender::PresetWritten::Unwritten(why) => {
+        presets::PresetWritten::Unwritten(why) => {
             let number = sender::number_of(why);
             PresetBits {
                 bits: 0,

@@ -11,7 +11,7 @@ use Rattle.sender.specs.State as sender
 use Rattle.sender.specs.Plans.{planBy}
 use Rattle.sender.specs.Refusals as sender-list
 use Rattle.sender.specs.Step as sending
-use Rattle.sender.specs.Presets.{isPreset, presetRead, presetWritten, presetNumber, writtenNumber}
+use Rattle.presets.specs.Presets.{isPreset, presetRead, presetWritten, presetNumber, writtenNumber}
 use Rattle.sender.specs.declared.Sender.{Sender}
 use Rattle.sender.specs.declared.Call.{Call}
 use Rattle.sender.specs.declared.Rule.{Rule}

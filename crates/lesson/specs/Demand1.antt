@@ -12,12 +12,12 @@ use Rattle.sender.specs.State.{itemDue, sounding, choosing}
 use Rattle.sender.specs.State as sender
 use Rattle.sender.specs.Refusals as sender-list
 use Rattle.sender.specs.Step as sending
-use Rattle.sender.specs.Presets.{isPreset, presetRead, presetWritten, presetNumber, writtenNumber}
+use Rattle.presets.specs.Presets.{isPreset, presetRead, presetWritten, presetNumber, writtenNumber}
 use Rattle.sender.specs.declared.Sender.{Sender}
 use Rattle.sender.specs.declared.Call.{Call}
 use Rattle.sender.specs.declared.Outcome as sent
-use Rattle.sender.specs.declared.PresetRead.{PresetRead}
-use Rattle.sender.specs.declared.PresetWritten.{PresetWritten}
+use Rattle.presets.specs.declared.PresetRead.{PresetRead}
+use Rattle.presets.specs.declared.PresetWritten.{PresetWritten}
 use Rattle.reader.specs.State as reader
 use Rattle.reader.specs.Refusals as reader-list
 use Rattle.reader.specs.Step as reading

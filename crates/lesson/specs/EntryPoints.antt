@@ -11,7 +11,7 @@ use Rattle.text.specs.Over.{Written}
 use Rattle.search.specs.Finding.{searchOf}
 use Rattle.search.specs.declared.Found.the-variants.{Place}
 use Rattle.sender.specs.State as sender
-use Rattle.sender.specs.Presets.{isPreset, presetRead, presetWritten}
+use Rattle.presets.specs.Presets.{isPreset, presetRead, presetWritten}
 use Rattle.sender.specs.declared.Sender.{Sender}
 use Rattle.sender.specs.declared.Call.{Call}
 use Rattle.reader.specs.State as reader

@@ -1,32 +1,29 @@
--- A call on a state in range leaves one in range; and a preset that is written reads back.
+-- A call on a state in range leaves one in range.
 use mathlib.Core.Path.{_≡_, refl, ap, _∙_}
 use mathlib.Core.Bool.{Bool, true, false, _&&_, _||_, or-true}
 use mathlib.Core.List.{List}
-use Prim.Native.Nat.{ℕ, _%_, _<_}
-use native.Mathlib.Omega.{arith}
+use Prim.Native.Nat.{ℕ, _<_}
 use lib.Dec.{eqb, leb}
 use borrow.Author.Tests.{eq-eqb}
 use lib.ListN.{length}
 use Rattle.bits.proofs.CrcLaws.{crc-low}
 use Rattle.bits.proofs.Every.{and-left, and-right}
-use Rattle.modes.specs.Codes.{value, lsdAttribute, audioOff, written}
+use Rattle.modes.specs.Codes.{value, audioOff}
 use Rattle.modes.specs.Owners.{within, overlaps}
 use Rattle.modes.specs.Commands.{mode, inRange, commandOf, offered}
 use Rattle.modes.specs.declared.Command.{Command}
 use Rattle.modes.specs.declared.Command.the-variants.{Neutral, SetAudio, SetLsd, NoEffect}
 use Rattle.modes.proofs.ModeLaws.{following-low, Ranged, ranged, in-range, audio-code, lsd-code, audio-small, lsd-small, off-ranged}
-use Rattle.sender.specs.State.{follows, stateInRange, freshWith}
+use Rattle.sender.specs.State.{follows, stateInRange}
 use Rattle.sender.specs.Plans.{sounds, planBy}
 use Rattle.sender.specs.Refusals.{isAudio, isLsd, clashes, goesPlain}
 use Rattle.sender.specs.Step.{nextBy, judged, outcomeOf}
-use Rattle.sender.specs.Presets.{presetOf, audioIn, lsdIn, isPreset, presetRead}
 use Rattle.sender.specs.declared.Sender.{Sender}
 use Rattle.sender.specs.declared.Call.{Call}
 use Rattle.sender.specs.declared.Rule.{Rule}
 use Rattle.sender.specs.declared.Rule.the-variants.{AsItem, MuteOff, Release, Offered}
 use Rattle.sender.specs.declared.Verdict.{Verdict}
 use Rattle.sender.specs.declared.Verdict.the-variants.{Refuse, Goes}
-use Rattle.sender.specs.declared.PresetAnswer.the-variants.{Read}
 use Rattle.sender.proofs.GoesLaws.{goes-by}
 
 -- ---- the parts of a state in range
@@ -111,24 +108,9 @@ stays-in-range s c voice lsd line r = go (judged s c voice lsd line) refl
         let g = goes-by s c (length line) (length voice) (length lsd) rule e in
         rw e (keeps _ (next-kept rule s (c .code) _ (kept s r) (crc-low _) (g .apart)))
 
--- ---- presets
+-- ---- what a state in range holds is small
 pub chosen-small : (s : Sender) → stateInRange s ≡ true → s .chosen < 32
 chosen-small s r = audio-small (s .chosen) (kept s r .ranges .spoken)
 
 pub lsd-in-force-small : (s : Sender) → stateInRange s ≡ true → s .mode .lsd < 15
 lsd-in-force-small s r = lsd-small (s .mode .lsd) (kept s r .ranges .given)
-
--- reading back what was written gives the same chosen audio and data code
-pub preset-back : (s : Sender) → stateInRange s ≡ true
-    → presetRead (presetOf (s .chosen) (s .mode .lsd))
-    ≡ record { answer = Read; state = freshWith (s .chosen); offer = written lsdAttribute (s .mode .lsd) }
-unfolding presetRead isPreset
-preset-back s r =
-    let a = s .chosen in
-    let d = s .mode .lsd in
-    let ha = chosen-small s r in
-    let hd = lsd-in-force-small s r in
-    let ea : audioIn (presetOf a d) ≡ a = omega arith in
-    let ed : lsdIn (presetOf a d) ≡ d = omega arith in
-    let ez : presetOf a d % 64 ≡ 0 = omega arith in
-    rw (ea, ed, eq-eqb _ 0 ez, in-range (mode a d) (kept s r .ranges))

@@ -3,4 +3,3 @@ pub mod Rules
 pub mod Plans
 pub mod Refusals
 pub mod Step
-pub mod Presets

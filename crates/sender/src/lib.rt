@@ -1,5 +1,5 @@
 // The sender's step: state, call and buffers in; the next state and the answer out; the block written into the lent line (document 01,
-// 'Sending a block', 'Preset' and 'Refusal numbers').
+// 'Sending a block' and 'Refusal numbers').
 ghost use mathlib.Core.Path.{_≡_};
 ghost use Rattle.modes.specs.Codes.{audioOff};
 ghost use Rattle.sender.specs.State.{stateInRange, freshWith};
@@ -7,7 +7,6 @@ ghost use Rattle.sender.specs.Rules.{ruleOf};
 ghost use Rattle.sender.specs.Plans.{dueNumber, planBy};
 ghost use Rattle.sender.specs.Refusals.{numberOf, clashes, goesPlain, goesAsItem, inOrder, judge, verdictOf};
 ghost use Rattle.sender.specs.Step.{nextBy, Told};
-ghost use Rattle.sender.specs.Presets.{isPreset, presetRead, presetWritten};
 use frame::Header;
 use modes::BlockNumber;
 use modes::Mode;
@@ -78,23 +77,6 @@ pub struct Plan {
 pub struct Outcome {
     pub state: Sender,
     pub answer: Answer,
-}
-
-pub enum PresetAnswer {
-    Read,
-    Unread(Refusal),
-}
-
-// A state to start from, and the data code to offer.
-pub struct PresetRead {
-    pub answer: PresetAnswer,
-    pub state: Sender,
-    pub offer: u8,
-}
-
-pub enum PresetWritten {
-    Bits(u16),
-    Unwritten(Refusal),
 }
 
 // Whether a state is in range.
@@ -379,7 +361,8 @@ pub fn send(state: Sender, call: Call, voice: &[u8], lsd: &[u8], line: &mut [u8]
     }
 }
 
-fn fresh_with(audio: u8) -> Sender
+// The state that a session starts in, but for the chosen audio.
+pub fn fresh_with(audio: u8) -> Sender
     ensures { λ r. ⌜ r ≡ freshWith audio ⌝ }
 {
     let mode = Mode { audio: 31, lsd: 0 };
@@ -398,50 +381,4 @@ pub fn fresh() -> Sender
     ensures { λ r. ⌜ r ≡ freshWith audioOff ⌝ }
 {
     fresh_with(31)
-}
-
-fn is_preset(bits: u16) -> bool
-    ensures { λ r. ⌜ r ≡ isPreset bits ⌝ }
-{
-    let audio = (bits / 2048) as u8;
-    let lsd = (bits / 64 % 32) as u8;
-    modes::in_range(Mode {
-        audio: audio,
-        lsd: lsd,
-    })
-        & (bits % 64 == 0)
-}
-
-// A preset's state to start from, and the data code to offer.
-pub fn read_preset(bits: u16) -> PresetRead
-    ensures { λ r. ⌜ r ≡ presetRead bits ⌝ }
-{
-    let audio = (bits / 2048) as u8;
-    let lsd = (bits / 64 % 32) as u8;
-    let state = fresh_with(audio);
-    let none = fresh_with(31);
-    if is_preset(bits) {
-        return PresetRead {
-            answer: PresetAnswer::Read,
-            state: state,
-            offer: 96 + lsd,
-        };
-    }
-    PresetRead {
-        answer: PresetAnswer::Unread(Refusal::NotAPreset),
-        state: none,
-        offer: 96,
-    }
-}
-
-// A state's chosen audio and data in force, as a preset.
-pub fn write_preset(s: Sender) -> PresetWritten
-    ensures { λ r. ⌜ r ≡ presetWritten s ⌝ }
-{
-    let chosen = s.chosen;
-    let lsd = s.mode.lsd;
-    if in_range(s) {
-        return PresetWritten::Bits((chosen as u16) * 2048 + (lsd as u16) * 64);
-    }
-    PresetWritten::Unwritten(Refusal::BadState)
 }

@@ -1,8 +1,8 @@
--- `sender::read_preset` meets its contract: by whether it is one.
-use Rattle.sender.specs.Presets.{presetRead}
+-- `presets::read_preset` meets its contract: by whether it is one.
+use Rattle.presets.specs.Presets.{presetRead}
 use borrow.Author.Needs.{needs}
-use Rattle.sender.proofs.read_preset.Statement.{statement}
-use Rattle.sender.proofs.read_preset.Tie as tie
+use Rattle.presets.proofs.read_preset.Statement.{statement}
+use Rattle.presets.proofs.read_preset.Tie as tie
 
 cast-audio : tie.Need-cast-audio
 cast-audio c = search needs

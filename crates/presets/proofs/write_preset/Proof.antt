@@ -1,11 +1,11 @@
--- `sender::write_preset` meets its contract: by whether the state is in range; listed values are small.
+-- `presets::write_preset` meets its contract: by whether the state is in range; listed values are small.
 use mathlib.Core.Path.{sym, _∙_}
 use native.Mathlib.Omega.{arith}
-use Rattle.sender.specs.Presets.{presetWritten}
+use Rattle.presets.specs.Presets.{presetWritten}
 use Rattle.sender.proofs.RangeLaws.{chosen-small, lsd-in-force-small}
 use borrow.Author.Needs.{needs}
-use Rattle.sender.proofs.write_preset.Statement.{statement}
-use Rattle.sender.proofs.write_preset.Tie as tie
+use Rattle.presets.proofs.write_preset.Statement.{statement}
+use Rattle.presets.proofs.write_preset.Tie as tie
 
 in-range-requires : tie.Need-in-range-requires
 in-range-requires c κs = search needs

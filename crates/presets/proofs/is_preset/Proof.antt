@@ -1,8 +1,8 @@
--- `sender::is_preset` meets its contract: code and definition are one expression.
-use Rattle.sender.specs.Presets.{isPreset}
+-- `presets::is_preset` meets its contract: code and definition are one expression.
+use Rattle.presets.specs.Presets.{isPreset}
 use borrow.Author.Needs.{needs}
-use Rattle.sender.proofs.is_preset.Statement.{statement}
-use Rattle.sender.proofs.is_preset.Tie as tie
+use Rattle.presets.proofs.is_preset.Statement.{statement}
+use Rattle.presets.proofs.is_preset.Tie as tie
 
 cast-audio : tie.Need-cast-audio
 cast-audio c = search needs

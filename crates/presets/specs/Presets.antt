@@ -4,15 +4,15 @@ use Prim.Native.Nat.{ℕ, _+_, _*_, _/_, _%_}
 use lib.Dec.{eqb}
 use Rattle.modes.specs.Codes.{written, lsdAttribute, audioOff, lsdOff}
 use Rattle.modes.specs.Commands.{mode, inRange}
 use Rattle.sender.specs.State.{stateInRange, freshWith}
 use Rattle.sender.specs.Refusals.{numberOf}
 use Rattle.sender.specs.declared.Sender.{Sender}
 use Rattle.sender.specs.declared.Refusal.the-variants.{BadState, NotAPreset}
-use Rattle.sender.specs.declared.PresetRead.{PresetRead}
-use Rattle.sender.specs.declared.PresetAnswer.{PresetAnswer}
-use Rattle.sender.specs.declared.PresetAnswer.the-variants.{Read, Unread}
-use Rattle.sender.specs.declared.PresetWritten.{PresetWritten}
-use Rattle.sender.specs.declared.PresetWritten.the-variants.{Bits, Unwritten}
+use Rattle.presets.specs.declared.PresetRead.{PresetRead}
+use Rattle.presets.specs.declared.PresetAnswer.{PresetAnswer}
+use Rattle.presets.specs.declared.PresetAnswer.the-variants.{Read, Unread}
+use Rattle.presets.specs.declared.PresetWritten.{PresetWritten}
+use Rattle.presets.specs.declared.PresetWritten.the-variants.{Bits, Unwritten}
 
 abbrev pub presetOf : ℕ → ℕ → ℕ
 presetOf audio lsd = audio * 2048 + lsd * 64

@@ -1,0 +1,69 @@
+// Presets: a sender's chosen audio and data as sixteen bits (document 01, 'Preset').
+ghost use mathlib.Core.Path.{_≡_};
+ghost use Rattle.presets.specs.Presets.{isPreset, presetRead, presetWritten};
+use modes::Mode;
+use sender::Refusal;
+use sender::Sender;
+
+pub enum PresetAnswer {
+    Read,
+    Unread(Refusal),
+}
+
+// A state to start from, and the data code to offer.
+pub struct PresetRead {
+    pub answer: PresetAnswer,
+    pub state: Sender,
+    pub offer: u8,
+}
+
+pub enum PresetWritten {
+    Bits(u16),
+    Unwritten(Refusal),
+}
+
+fn is_preset(bits: u16) -> bool
+    ensures { λ r. ⌜ r ≡ isPreset bits ⌝ }
+{
+    let audio = (bits / 2048) as u8;
+    let lsd = (bits / 64 % 32) as u8;
+    modes::in_range(Mode {
+        audio: audio,
+        lsd: lsd,
+    })
+        & (bits % 64 == 0)
+}
+
+// A preset's state to start from, and the data code to offer.
+pub fn read_preset(bits: u16) -> PresetRead
+    ensures { λ r. ⌜ r ≡ presetRead bits ⌝ }
+{
+    let audio = (bits / 2048) as u8;
+    let lsd = (bits / 64 % 32) as u8;
+    let state = sender::fresh_with(audio);
+    let none = sender::fresh_with(31);
+    if is_preset(bits) {
+        return PresetRead {
+            answer: PresetAnswer::Read,
+            state: state,
+            offer: 96 + lsd,
+        };
+    }
+    PresetRead {
+        answer: PresetAnswer::Unread(Refusal::NotAPreset),
+        state: none,
+        offer: 96,
+    }
+}
+
+// A state's chosen audio and data in force, as a preset.
+pub fn write_preset(s: Sender) -> PresetWritten
+    ensures { λ r. ⌜ r ≡ presetWritten s ⌝ }
+{
+    let chosen = s.chosen;
+    let lsd = s.mode.lsd;
+    if sender::in_range(s) {
+        return PresetWritten::Bits((chosen as u16) * 2048 + (lsd as u16) * 64);
+    }
+    PresetWritten::Unwritten(Refusal::BadState)
+}
