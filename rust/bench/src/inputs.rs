@@ -4,8 +4,8 @@
 //! was made. They are as many as a cache holds well, for a processor learns the branches of a few by heart.
 
 use model::bits;
-use model::vectors::forge::first_bits_before;
-use model::vectors::random::Random;
+use model::forge::first_bits_before;
+use model::random::Random;
 
 use crate::contestants::{self, Contestant};
 use crate::forms::{self, Mode, Offer, Reader, Sender, LINE, LSD, RECORDING_MAX, VOICE};

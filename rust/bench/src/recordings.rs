@@ -2,7 +2,7 @@
 
 use std::hint::black_box;
 
-use model::vectors::random::Random;
+use model::random::Random;
 
 use crate::contestants::{self, Contestant};
 use crate::forms::{self, Offer, Sender, LINE, LSD, VOICE};

@@ -3,10 +3,11 @@
 use std::collections::BTreeSet;
 use std::env;
 
-use model::vectors::random::Random;
+use model::random::Random;
 
 use crate::calls::Call;
 use crate::library::Library;
+use crate::show;
 
 /// The seed where `SEED` does not say otherwise.
 const SEED: u64 = 221;
@@ -37,7 +38,8 @@ impl<L: Library> Trial<'_, L> {
                 L::TEST,
                 self.name
             );
-            panic!("the library and the model differ\nagain:   {again}\ncall:    {call:?}\nlibrary: {left:?}\nmodel:   {expected:?}");
+            let first = show::parting(&left, &expected);
+            panic!("the library and the model differ\nfirst:   {first}\nagain:   {again}\ncall:    {call:?}\nlibrary: {left:?}\nmodel:   {expected:?}");
         }
         left
     }

@@ -1,11 +1,11 @@
 //! States, buffers, line blocks and recordings at random: most such as a session meets, some damaged, some forged.
 
 use model::codes::{Mode, AUDIO_OFF};
+use model::forge::{first_bits_before, Line};
 use model::frame::{BLOCK_OCTETS, DATA_OCTETS, VOICE_OCTETS};
+use model::random::Random;
 use model::sender::SenderState;
 use model::service;
-use model::vectors::forge::{first_bits_before, Line};
-use model::vectors::random::Random;
 use model::{bas, bits};
 
 use crate::calls::{Octets, Read, Send};

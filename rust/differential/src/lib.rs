@@ -15,4 +15,5 @@ pub mod draw;
 pub mod library;
 pub mod linked;
 pub mod server;
+pub mod show;
 pub mod states;

@@ -1,4 +1,4 @@
-//! A plain model of document 01 as a program: vectors, sending, listing.
+//! A plain model of document 01 as a program: corner cases, sending, listing.
 
 mod commands;
 
@@ -9,10 +9,9 @@ use commands::{Options, Stop};
 const HELP: &str = "\
 A plain model of document 01: one framed 64 kbit/s channel, its BAS words and its CRC-4.
 
-model vectors [KIND ...] [--seed N] [--count N]
-    Prints cases with their expected outcomes: first the corner cases by decision id, then N random ones
-    of each kind (50), the same ones for the same seed (1). Kinds: sender, reader, search, walk, listing,
-    preset, bas, crc, service; all of them if none is given. The head of the output explains its form.
+model corners DIR
+    Writes the corner cases with their outcomes into the folder DIR, a file for each part: sender, reader,
+    search, walk, listing, preset, bas, crc, service.
 
 model send [--offer LIST] [--script FILE] [--data FILE] [--preset HHHH] < VOICE > RECORDING
     Frames one block per call. A call is HH, HH:FLAGS, HH*N or HH:FLAGS*N: HH is the offered code in hex,
@@ -82,7 +81,7 @@ fn run(arguments: Vec<std::ffi::OsString>) -> Result<(), Stop> {
     let command = words.remove(0);
     let options = Options::new(words);
     match command.as_str() {
-        "vectors" => commands::vectors::run(options)?,
+        "corners" => commands::corners::run(options)?,
         "send" => commands::send::run(options)?,
         "session" => commands::session::run(options)?,
         "recordings" => commands::recordings::run(options)?,

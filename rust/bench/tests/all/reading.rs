@@ -4,7 +4,7 @@ use bench::check;
 use bench::contestants::{self, Contestant};
 use differential::calls::Read;
 use differential::draw;
-use model::vectors::random::Random;
+use model::random::Random;
 
 use crate::states;
 

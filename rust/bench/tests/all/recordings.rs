@@ -3,7 +3,7 @@
 use bench::check;
 use bench::contestants::{self, Contestant};
 use differential::draw;
-use model::vectors::random::Random;
+use model::random::Random;
 
 fn compare_search(recording: &[u8], start: usize) {
     let wanted = contestants::yardstick().search(recording, start);

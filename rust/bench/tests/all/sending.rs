@@ -5,7 +5,7 @@ use bench::contestants::{self, Contestant};
 use bench::forms::Offer;
 use differential::calls::Send;
 use differential::draw;
-use model::vectors::random::Random;
+use model::random::Random;
 
 use crate::states;
 

@@ -11,7 +11,7 @@ mod searching;
 mod sending;
 mod walking;
 
-use std::fmt::{self, Debug};
+use std::fmt::Debug;
 use std::io;
 
 use model::reader::{BlockAnswer, ReaderState, Standing, Verdict};
@@ -20,6 +20,7 @@ use model::slots::Reading;
 use crate::server::{Answer, Request};
 use crate::states::{self, Reader};
 
+pub use crate::show::Octets;
 pub use listing::{List, ListLeft};
 pub use presets::{ReadPreset, WritePreset};
 pub use reading::{Read, ReadLeft};
@@ -47,17 +48,6 @@ pub trait Call: Debug {
     /// Names for what became of the call, by which a test can ask that its cases reach them all.
     fn outcome(_left: &Self::Left) -> Vec<String> {
         Vec::new()
-    }
-}
-
-/// Octets of a buffer; they print as hex digits.
-#[derive(Clone, PartialEq, Eq)]
-pub struct Octets(pub Vec<u8>);
-
-impl Debug for Octets {
-    fn fmt(&self, out: &mut fmt::Formatter) -> fmt::Result {
-        write!(out, "{}:", self.0.len())?;
-        self.0.iter().try_for_each(|octet| write!(out, "{octet:02X}"))
     }
 }
 

@@ -3,9 +3,9 @@
 use differential::draw;
 use differential::states::{self, Reader};
 use model::codes::Mode;
+use model::forge::{self, Line};
 use model::frame::BLOCK_OCTETS;
 use model::reader::ReaderState;
-use model::vectors::forge::{self, Line};
 
 use super::{run, Trial};
 

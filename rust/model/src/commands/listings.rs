@@ -7,11 +7,11 @@ use super::tape::{octets, Tape};
 use super::Options;
 use model::bas;
 use model::bits;
+use model::forge::idle;
 use model::frame::{Half, BLOCK_OCTETS, DATA_OCTETS};
 use model::listing::listing;
 use model::recording::{MOST_OCTETS, SEARCH_OCTETS};
 use model::service::{self, Flags};
-use model::vectors::forge::idle;
 
 /// Runs the command.
 pub fn run(mut options: Options) -> Result<(), String> {

@@ -1,5 +1,6 @@
 //! The commands of the program.
 
+pub mod corners;
 pub mod list;
 pub mod listings;
 pub mod read;
@@ -8,7 +9,6 @@ pub mod recordings;
 pub mod send;
 pub mod session;
 pub mod tape;
-pub mod vectors;
 
 use std::io;
 
@@ -45,12 +45,6 @@ impl Options {
     /// The value of the option `name`, which came last.
     pub fn value(&mut self, name: &str) -> Result<String, String> {
         self.arguments.next().ok_or_else(|| format!("{name} needs a value"))
-    }
-
-    /// The value of an option as a number.
-    pub fn number<N: std::str::FromStr>(&mut self, name: &str) -> Result<N, String> {
-        let value = self.value(name)?;
-        value.parse().map_err(|_| format!("{name} needs a number, not \"{value}\""))
     }
 
     /// Complains about arguments that a command without any was given.

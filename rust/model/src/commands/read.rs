@@ -7,7 +7,7 @@ use model::codes::{self, Mode};
 use model::frame::{self, Owner, DATA_OCTETS, VOICE_OCTETS};
 use model::reader::{ReaderState, Standing};
 use model::recording::{search, Step, Walk};
-use model::vectors::text;
+use model::text;
 
 /// Runs the command.
 pub fn run(options: Options) -> Result<(), String> {

@@ -8,7 +8,7 @@ use model::frame::{BLOCK_OCTETS, DATA_OCTETS, VOICE_OCTETS};
 use model::listing::{standing_name, verdict_name};
 use model::reader::{read, BlockAnswer, ReaderState};
 use model::slots::{Due, Reading};
-use model::vectors::text;
+use model::text;
 
 /// The refused calls: whether the state is forged, and the lengths of line, voice and data.
 const REFUSED: [(bool, [usize; 3]); 6] = [

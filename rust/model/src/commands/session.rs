@@ -8,7 +8,7 @@ use model::frame::{BLOCK_OCTETS, DATA_OCTETS, VOICE_OCTETS};
 use model::refusal::Refusal;
 use model::sender::{send, Answer, Call, SenderState};
 use model::service::Flags;
-use model::vectors::text;
+use model::text;
 
 /// The calls: the offered code, and letters out of m (mute), a, e, t, and for calls with something wrong in them
 /// l (a short line), v (short voice), d (short data), f (a forged state).

@@ -2,10 +2,10 @@
 
 use super::send;
 use model::bas;
+use model::forge::Line;
 use model::frame::{Half, BLOCK_OCTETS, DATA_OCTETS, VOICE_OCTETS};
 use model::sender::{self, SenderState};
 use model::service;
-use model::vectors::forge::Line;
 
 /// The blocks of one session, one after another. Blocks are counted from 1.
 pub struct Tape {

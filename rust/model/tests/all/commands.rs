@@ -3,7 +3,7 @@
 use std::io::Write;
 use std::process::{Command, Output, Stdio};
 
-use model::vectors::forge::{idle, spoil};
+use model::forge::{idle, spoil};
 
 pub fn run(arguments: &[&str], input: &[u8]) -> Output {
     let mut child = Command::new(env!("CARGO_BIN_EXE_model"))
@@ -92,18 +92,6 @@ fn read_goes_on_after_a_loss() {
 }
 
 #[test]
-fn vectors_are_printed() {
-    let output = run(&["vectors", "preset", "--seed", "5", "--count", "2"], &[]);
-    let printed = text(&output.stdout);
-    assert!(printed.contains("# case P2") && printed.contains("# random 2\n"));
-    assert!(!printed.contains("# random 3") && !printed.contains("kind sender"));
-    let all = text(&run(&["vectors", "--count", "0"], &[]).stdout);
-    for kind in ["sender", "reader", "search", "walk", "listing", "preset", "bas", "crc", "service"] {
-        assert!(all.contains(&format!("\nkind {kind}\n")), "{kind}");
-    }
-}
-
-#[test]
 fn session_has_every_answer() {
     let output = run(&["session"], &[]);
     assert!(output.status.success());
@@ -153,13 +141,11 @@ fn help_explains() {
     let output = run(&["--help"], &[]);
     assert!(output.status.success());
     let help = text(&output.stdout);
-    for command in ["vectors", "send", "session", "recordings", "reading", "list", "listings", "read"] {
+    for command in ["corners", "send", "session", "recordings", "reading", "list", "listings", "read"] {
         let name = format!("model {command}");
         assert!(help.lines().any(|line| line == name || line.starts_with(&format!("{name} "))), "{command}");
     }
-    for option in ["--seed", "--script"] {
-        assert!(help.contains(option));
-    }
+    assert!(help.contains("--script"));
 }
 
 #[test]
@@ -175,9 +161,9 @@ fn wrong_usage_is_told() {
         &["listings", "/dev/null/folder"],
         &["listings", "/dev/null/folder", "file"],
         &["read", "file"],
-        &["vectors", "everything"],
-        &["vectors", "--seed"],
-        &["vectors", "--seed", "x"],
+        &["corners"],
+        &["corners", "/dev/null/folder"],
+        &["corners", "/dev/null/folder", "file"],
         &["send"],
         &["send", "--offer", "1"],
         &["send", "--offer", "GG"],

@@ -2,11 +2,11 @@
 
 use crate::common::word_of;
 use model::bas;
+use model::corners::case::{Case, SenderCase};
+use model::corners::corners;
 use model::fault::Fault;
+use model::forge::{call, idle, mode, reading, sending, take, Line};
 use model::sender::{Answer, SenderState};
-use model::vectors::case::{Case, SenderCase};
-use model::vectors::forge::{call, idle, mode, reading, sending, take, Line};
-use model::vectors::{corners, vectors};
 
 /// The first line of an outcome.
 fn answer(case: &Case, fault: Fault) -> String {
@@ -69,12 +69,9 @@ fn a_mode_learned_during_the_three_bad_blocks_kept() {
 }
 
 #[test]
-fn the_vectors_tell_every_fault_apart() {
+fn the_corner_cases_tell_every_fault_apart() {
     for fault in Fault::ALL {
         let told_apart = |case: &Case| case.outcome(fault) != case.outcome(Fault::None);
-        assert!(corners().iter().any(|vector| told_apart(&vector.case)), "corner cases, {fault:?}");
-        let random = model::vectors::case::Kind::ALL.into_iter().flat_map(|kind| vectors(kind, 1, 300));
-        let told = random.filter(|vector| vector.id.is_none() && told_apart(&vector.case)).count();
-        assert!(told > 0, "random cases, {fault:?}");
+        assert!(corners().iter().any(|corner| told_apart(&corner.case)), "{fault:?}");
     }
 }

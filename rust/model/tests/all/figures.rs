@@ -5,13 +5,13 @@ use model::bas;
 use model::bits;
 use model::codes;
 use model::crc::crc4;
+use model::forge::{idle, sending};
 use model::frame::Block;
 use model::listing::listing;
 use model::recording::search;
 use model::refusal::Refusal;
 use model::sender::{Answer, SenderState};
 use model::service::{rows, Flags};
-use model::vectors::forge::{idle, sending};
 
 #[test]
 fn check_octets() {

@@ -5,11 +5,11 @@ use crate::common::Reader;
 use crate::layout::{DATA, WIDTHS};
 use model::codes::{self, Mode};
 use model::crc::crc4;
+use model::forge::{mode, Line};
 use model::frame::Block;
+use model::random::Random;
 use model::reader::{ReaderState, Standing, Verdict};
 use model::slots::Reading;
-use model::vectors::forge::{mode, Line};
-use model::vectors::random::Random;
 
 /// A block as the line brings it, and what is known of how it was made.
 struct Sent {

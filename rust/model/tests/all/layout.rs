@@ -2,8 +2,8 @@
 
 use crate::common::{Reader, Sender};
 use model::codes::{self, Mode};
+use model::forge::{filler, mode, reading, sending};
 use model::frame::{self, Owner};
-use model::vectors::forge::{filler, mode, reading, sending};
 
 /// Width of each audio value.
 pub const WIDTHS: [(u8, usize); 11] =

@@ -2,6 +2,7 @@
 
 mod commands;
 mod common;
+mod corners;
 mod faults;
 mod figures;
 mod history;
@@ -12,5 +13,4 @@ mod refusals;
 mod sending;
 mod sessions;
 mod stored;
-mod vector_text;
 mod walking;

@@ -1,10 +1,10 @@
 //! Presets.
 
 use crate::common::Sender;
+use model::forge::{sending, silent};
 use model::preset;
 use model::sender::Answer::{Held, Sent};
 use model::sender::SenderState;
-use model::vectors::forge::{sending, silent};
 
 /// Audio [20] (10100), data [5] (00101), six zeros.
 const A20_D5: u16 = 0b1010_0001_0100_0000;

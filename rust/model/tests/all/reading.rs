@@ -2,9 +2,9 @@
 
 use crate::common::Reader;
 use model::codes::Mode;
+use model::forge::{first_bits_before, mode, pattern_but_last, reading, Line};
 use model::reader::{BlockAnswer, ReaderState, Standing, Verdict};
 use model::slots::{Due, Reading};
-use model::vectors::forge::{first_bits_before, mode, pattern_but_last, reading, Line};
 
 fn answer(standing: Standing, verdict: Verdict, word: Reading) -> BlockAnswer {
     BlockAnswer { standing, verdict, word }

@@ -2,13 +2,13 @@
 
 use crate::common::Sender;
 use model::codes;
+use model::forge::{idle, mode, reading, sending, silent, Line};
 use model::preset;
 use model::reader::{self, ReaderState};
 use model::recording::{search, Step, Walk};
 use model::refusal::Refusal;
 use model::sender::SenderState;
 use model::slots::Due;
-use model::vectors::forge::{idle, mode, reading, sending, silent, Line};
 
 fn sender_states_out_of_range() -> Vec<SenderState> {
     let base = sending(20, 5);

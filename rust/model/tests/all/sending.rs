@@ -1,10 +1,10 @@
 //! Each rule of "Sending a block".
 
 use crate::common::Sender;
+use model::forge::{filler, sending, silent};
 use model::sender::Answer::{Held, Sent};
 use model::sender::SenderState;
 use model::service::Flags;
-use model::vectors::forge::{filler, sending, silent};
 
 fn with_item_due(state: SenderState) -> SenderState {
     SenderState { item_due: true, ..state }

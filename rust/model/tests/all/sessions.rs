@@ -4,11 +4,11 @@ use crate::common::{Reader, Sender};
 use crate::layout::{data_bits, first_bits_of, WIDTHS};
 use model::frame::BLOCK_OCTETS;
 use model::listing::listing;
+use model::random::Random;
 use model::reader::{ReaderState, Standing, Verdict};
 use model::sender::SenderState;
 use model::service::Flags;
 use model::slots::Due;
-use model::vectors::random::Random;
 
 fn width(audio: u8) -> usize {
     WIDTHS.iter().find(|(value, _)| *value == audio).expect("a listed audio").1

@@ -6,7 +6,7 @@ use std::path::{Path, PathBuf};
 use crate::commands::{run, text};
 use model::codes::{held_audio, listed_data};
 
-fn path(name: &str) -> PathBuf {
+pub fn path(name: &str) -> PathBuf {
     Path::new(env!("CARGO_MANIFEST_DIR")).join("../..").join(name)
 }
 

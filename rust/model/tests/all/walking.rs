@@ -1,13 +1,13 @@
 //! Searches, walks and listings.
 
+use model::forge::{filler, idle, mode, reading, session, spoil};
 use model::frame::BLOCK_OCTETS;
 use model::listing::listing;
+use model::random::Random;
 use model::reader::{ReaderState, Standing};
 use model::recording::{search, Step, Walk};
 use model::refusal::Refusal;
 use model::sender::SenderState;
-use model::vectors::forge::{filler, idle, mode, reading, session, spoil};
-use model::vectors::random::Random;
 
 fn shifted(before: usize, recording: &[u8]) -> Vec<u8> {
     [vec![0; before], recording.to_vec()].concat()

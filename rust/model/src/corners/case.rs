@@ -1,16 +1,14 @@
-//! One case of the vectors: the inputs of a call, and what the model makes of them.
+//! One corner case: the inputs of a call, and what the model makes of them.
 
-use super::text;
-use crate::crc;
+use super::outcome;
 use crate::fault::Fault;
 use crate::frame::{Block, DATA_OCTETS, VOICE_OCTETS};
 use crate::reader::{self, ReaderState};
-use crate::recording::{self, Step, Walk};
+use crate::recording::{self, Walk};
 use crate::refusal::Refusal;
 use crate::sender::{self, Answer, Call, SenderState};
 use crate::service::{self, Flags};
-use crate::slots::Due;
-use crate::{bas, listing, preset};
+use crate::{bas, crc, listing, preset, text};
 
 /// The subjects of cases.
 #[derive(Clone, Copy, Debug, PartialEq, Eq)]
@@ -36,7 +34,7 @@ pub enum Kind {
 }
 
 impl Kind {
-    /// All kinds, in the order in which they are printed.
+    /// All kinds.
     pub const ALL: [Kind; 9] = [
         Kind::Sender,
         Kind::Reader,
@@ -49,7 +47,7 @@ impl Kind {
         Kind::Service,
     ];
 
-    /// The name in the text.
+    /// The name of its file.
     pub fn name(self) -> &'static str {
         match self {
             Kind::Sender => "sender",
@@ -62,11 +60,6 @@ impl Kind {
             Kind::Crc => "crc",
             Kind::Service => "service",
         }
-    }
-
-    /// The kind of that name.
-    pub fn named(name: &str) -> Option<Kind> {
-        Kind::ALL.into_iter().find(|kind| kind.name() == name)
     }
 }
 
@@ -164,62 +157,53 @@ impl Case {
         }
     }
 
-    /// The lines that name the inputs.
+    /// The lines that name the call and its inputs, each a key and a value; a call has always the same keys.
     pub fn inputs(&self) -> Vec<String> {
         match self {
             Case::Sender(case) => case.inputs(),
             Case::Reader(case) => case.inputs(),
             Case::Walk(case) => case.inputs(),
             Case::Search(recording, start) => {
-                vec![format!("start {start}"), recording_line(recording)]
+                vec!["call search".to_string(), format!("start {start}"), octets("recording", recording)]
             }
-            Case::Listing(recording) => vec![recording_line(recording)],
-            Case::PresetRead(octets) => vec![format!("read {}", text::octets(octets))],
-            Case::PresetWrite(state) => vec![format!("write {}", text::sender_state(state))],
-            Case::Check(code) => vec![format!("check {code:02X}")],
-            Case::Sent(code) => vec![format!("sent {code:02X}")],
-            Case::ReadWord(line) => vec![format!("read {}", text::hex(line))],
-            Case::Crc(block) => vec![format!("block {}", text::octets(block))],
+            Case::Listing(recording) => vec!["call list".to_string(), octets("recording", recording)],
+            Case::PresetRead(preset) => vec!["call read preset".to_string(), octets("preset", preset)],
+            Case::PresetWrite(state) => vec!["call write preset".to_string(), outcome::sender_state(state)],
+            Case::Check(code) => vec!["call check octet".to_string(), format!("code {code:02X}")],
+            Case::Sent(code) => vec!["call word sent".to_string(), format!("code {code:02X}")],
+            Case::ReadWord(word) => vec!["call word read".to_string(), octets("word", word)],
+            Case::Crc(block) => vec!["call remainder".to_string(), octets("block", block)],
             Case::Service(flags, remainder) => {
-                vec![format!("flags {}", text::flags(*flags)), format!("remainder {remainder}")]
+                vec!["call service rows".to_string(), flags_line(*flags), format!("remainder {remainder}")]
             }
         }
     }
 
-    /// The lines of the outcome; the first begins with `expect`.
+    /// The lines of the outcome.
     pub fn outcome(&self, fault: Fault) -> Vec<String> {
         let outcome = match self {
             Case::Sender(case) => case.outcome(fault),
             Case::Reader(case) => case.outcome(fault),
             Case::Walk(case) => case.outcome(fault),
-            Case::Search(recording, start) => {
-                recording::search(recording, *start).map(|place| vec![format!("expect found {place}")])
+            Case::Search(recording, start) => recording::search(recording, *start).map(outcome::found),
+            Case::PresetRead(preset) => {
+                preset::read_octets(preset).map(|(state, offer)| outcome::preset_read(&state, offer))
             }
-            Case::PresetRead(octets) => read_preset(octets),
-            Case::PresetWrite(state) => preset::write(state).map(|bits| vec![format!("expect preset {bits:04X}")]),
+            Case::PresetWrite(state) => preset::write(state).map(outcome::preset_written),
             _ => Ok(self.leaf_outcome(fault)),
         };
-        outcome.unwrap_or_else(|refusal| vec![format!("expect refused {}", refusal.number())])
+        outcome.unwrap_or_else(|refusal| outcome::refused(refusal.number()))
     }
 
     /// The outcome of calls that are never refused.
     fn leaf_outcome(&self, fault: Fault) -> Vec<String> {
         match self {
-            Case::Listing(recording) => list(fault, recording),
-            Case::Check(code) => vec![format!("expect octet {:02X}", bas::check_octet(*code))],
-            Case::Sent(code) => vec![format!("expect line {}", text::hex(&bas::sent(*code)))],
-            Case::ReadWord(line) => vec![match bas::read_with(fault, *line) {
-                Some(code) => format!("expect code {code:02X}"),
-                None => "expect unreadable".to_string(),
-            }],
-            Case::Crc(block) => {
-                let block = Block::from_octets(block);
-                vec![format!("expect remainder {}", crc::crc4_with(fault, &block))]
-            }
-            Case::Service(flags, remainder) => {
-                let rows = service::rows(*flags, *remainder).map(|row| text::bits(&row));
-                vec![format!("expect rows {}", rows.join(" "))]
-            }
+            Case::Listing(recording) => outcome::listed(&listing::listing_with(fault, recording)),
+            Case::Check(code) => outcome::check_octet(bas::check_octet(*code)),
+            Case::Sent(code) => outcome::word_sent(bas::sent(*code)),
+            Case::ReadWord(word) => outcome::word_read(bas::read_with(fault, *word)),
+            Case::Crc(block) => outcome::remainder(crc::crc4_with(fault, &Block::from_octets(block))),
+            Case::Service(flags, remainder) => outcome::rows(&service::rows(*flags, *remainder)),
             _ => Vec::new(),
         }
     }
@@ -228,27 +212,20 @@ impl Case {
 impl SenderCase {
     fn inputs(&self) -> Vec<String> {
         vec![
-            state_line(text::sender_state(&self.state)),
+            "call send".to_string(),
+            outcome::sender_state(&self.state),
             format!("mute {}", u8::from(self.mute)),
             format!("offered {:02X}", self.offered),
-            format!("flags {}", text::flags(self.flags)),
-            format!("voice {}", text::octets(&self.voice)),
-            format!("data {}", text::octets(&self.data)),
-            format!("line {}", text::octets(&self.line)),
+            flags_line(self.flags),
+            octets("voice", &self.voice),
+            octets("data", &self.data),
+            octets("line", &self.line),
         ]
     }
 
     fn outcome(&self, fault: Fault) -> Result<Vec<String>, Refusal> {
         let (state, line, answer) = self.run(fault)?;
-        let answer = match answer {
-            Answer::Sent => "sent",
-            Answer::Held => "held",
-        };
-        Ok(vec![
-            format!("expect {answer}"),
-            state_line(text::sender_state(&state)),
-            format!("line {}", text::octets(&line)),
-        ])
+        Ok(outcome::sent(answer, &state, &line))
     }
 
     /// The state and line block after the call, and its answer.
@@ -264,22 +241,18 @@ impl SenderCase {
 impl ReaderCase {
     fn inputs(&self) -> Vec<String> {
         vec![
-            state_line(text::reader_state(&self.state)),
-            format!("line {}", text::octets(&self.line)),
-            format!("voice {}", text::octets(&self.voice)),
-            format!("data {}", text::octets(&self.data)),
+            "call read".to_string(),
+            outcome::reader_state(&self.state),
+            octets("line", &self.line),
+            octets("voice", &self.voice),
+            octets("data", &self.data),
         ]
     }
 
     fn outcome(&self, fault: Fault) -> Result<Vec<String>, Refusal> {
         let mut lent = self.clone();
         let answer = reader::read_with(fault, &mut lent.state, &self.line, &mut lent.voice, &mut lent.data)?;
-        Ok(vec![
-            format!("expect {}", text::block_answer(answer)),
-            state_line(text::reader_state(&settled(lent.state))),
-            format!("voice {}", text::octets(&lent.voice)),
-            format!("data {}", text::octets(&lent.data)),
-        ])
+        Ok(outcome::read(answer, &lent.state, [&lent.voice, &lent.data]))
     }
 
     /// The state after the call, or the same state where it is refused.
@@ -293,62 +266,29 @@ impl ReaderCase {
 
 impl WalkCase {
     fn inputs(&self) -> Vec<String> {
-        let mut lines = walk_lines(self.place, self.searching);
-        lines.push(recording_line(&self.recording));
-        lines.push(state_line(text::reader_state(&self.state)));
-        lines.push(format!("voice {}", text::octets(&self.voice)));
-        lines.push(format!("data {}", text::octets(&self.data)));
-        lines
+        vec![
+            "call step".to_string(),
+            format!("place {}", self.place),
+            format!("searching {}", u8::from(self.searching)),
+            octets("recording", &self.recording),
+            outcome::reader_state(&self.state),
+            octets("voice", &self.voice),
+            octets("data", &self.data),
+        ]
     }
 
     fn outcome(&self, fault: Fault) -> Result<Vec<String>, Refusal> {
         let mut walk = Walk { recording: &self.recording, place: self.place, searching: self.searching };
         let mut lent = self.clone();
         let step = walk.step_with(fault, &mut lent.state, &mut lent.voice, &mut lent.data)?;
-        let mut lines = vec![match step {
-            Step::Block(answer) => format!("expect block {}", text::block_answer(answer)),
-            Step::Place(place) => format!("expect place {place}"),
-            Step::End(left) => format!("expect end {left}"),
-        }];
-        lines.extend(walk_lines(walk.place, walk.searching));
-        lines.push(state_line(text::reader_state(&settled(lent.state))));
-        lines.push(format!("voice {}", text::octets(&lent.voice)));
-        lines.push(format!("data {}", text::octets(&lent.data)));
-        Ok(lines)
+        Ok(outcome::stepped(step, (walk.place, walk.searching), &lent.state, [&lent.voice, &lent.data]))
     }
 }
 
-/// No message words due is written as nothing due on the way out (R27).
-fn settled(state: ReaderState) -> ReaderState {
-    ReaderState {
-        due: match state.due {
-            Due::Message(0) => Due::Nothing,
-            due => due,
-        },
-        ..state
-    }
+fn octets(key: &str, octets: &[u8]) -> String {
+    format!("{key} {}", text::octets(octets))
 }
 
-fn walk_lines(place: usize, searching: bool) -> Vec<String> {
-    vec![format!("place {place}"), format!("searching {}", u8::from(searching))]
-}
-
-fn state_line(state: String) -> String {
-    format!("state {state}")
-}
-
-fn recording_line(recording: &[u8]) -> String {
-    format!("recording {}", text::octets(recording))
-}
-
-fn read_preset(octets: &[u8]) -> Result<Vec<String>, Refusal> {
-    let (state, offer) = preset::read_octets(octets)?;
-    Ok(vec![format!("expect offer {offer:02X}"), state_line(text::sender_state(&state))])
-}
-
-fn list(fault: Fault, recording: &[u8]) -> Vec<String> {
-    let listing = listing::listing_with(fault, recording);
-    let mut lines = vec![format!("expect lines {}", listing.lines().count())];
-    lines.extend(listing.lines().map(|line| format!("> {line}")));
-    lines
+fn flags_line(flags: Flags) -> String {
+    format!("flags {}", text::flags(flags))
 }

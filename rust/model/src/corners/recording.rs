@@ -1,8 +1,9 @@
 //! Corner cases of searches, walks and listings (01, "Finding alignment" and "Figures to check against").
 
 use super::case::{Case, WalkCase};
-use super::forge::{filler, idle, mode, named, reading, session, spoil, walk};
-use super::Vector;
+use super::Corner;
+use crate::forge::{filler, idle, mode, named, reading, session, spoil, walk};
+
 use crate::frame::BLOCK_OCTETS;
 use crate::reader::ReaderState;
 use crate::recording::{Walk, MOST_OCTETS};
@@ -10,7 +11,7 @@ use crate::sender::SenderState;
 use crate::slots::Due;
 
 /// All of them.
-pub fn corners() -> Vec<Vector> {
+pub fn corners() -> Vec<Corner> {
     let groups = [
         searches(),
         search_edges(),
@@ -24,15 +25,15 @@ pub fn corners() -> Vec<Vector> {
     groups.into_iter().flatten().collect()
 }
 
-fn search(id: &'static str, about: &str, recording: &[u8], start: usize) -> Vector {
+fn search(id: &'static str, about: &str, recording: &[u8], start: usize) -> Corner {
     named(id, about, Case::Search(recording.to_vec(), start))
 }
 
-fn step(id: &'static str, about: &str, case: WalkCase) -> Vector {
+fn step(id: &'static str, about: &str, case: WalkCase) -> Corner {
     named(id, about, Case::Walk(case))
 }
 
-fn list(id: &'static str, about: &str, recording: &[u8]) -> Vector {
+fn list(id: &'static str, about: &str, recording: &[u8]) -> Corner {
     named(id, about, Case::Listing(recording.to_vec()))
 }
 
@@ -41,10 +42,10 @@ fn shifted(before: usize, recording: &[u8]) -> Vec<u8> {
     [vec![0; before], recording.to_vec()].concat()
 }
 
-fn searches() -> Vec<Vector> {
+fn searches() -> Vec<Corner> {
     let two = idle(2);
     let later = shifted(3, &two);
-    let mut vectors = vec![
+    let mut cases = vec![
         search("G7", "a place is counted from 0", &two[..168], 0),
         search("W7", "the answer counts from the recording's first octet", &later, 2),
         search("W7", "a start at the place itself", &later, 3),
@@ -60,12 +61,12 @@ fn searches() -> Vec<Vector> {
     for offset in (0..=8).chain(80..=88).chain(160..=167) {
         let mut turned = two[..168].to_vec();
         turned[offset] ^= 1;
-        vectors.push(search("G7", &format!("octet {offset} with its bit 8 turned"), &turned, 0));
+        cases.push(search("G7", &format!("octet {offset} with its bit 8 turned"), &turned, 0));
     }
-    vectors
+    cases
 }
 
-fn search_edges() -> Vec<Vector> {
+fn search_edges() -> Vec<Corner> {
     let last = [vec![0; MOST_OCTETS - 168], idle(2)[..168].to_vec()].concat();
     let too_long = [last.clone(), vec![0]].concat();
     vec![
@@ -77,7 +78,7 @@ fn search_edges() -> Vec<Vector> {
     ]
 }
 
-fn walk_refusals() -> Vec<Vector> {
+fn walk_refusals() -> Vec<Corner> {
     let all = WalkCase {
         place: 321,
         voice: vec![0xA5; 139],
@@ -109,7 +110,7 @@ fn walk_refusals() -> Vec<Vector> {
     ]
 }
 
-fn walk_ends() -> Vec<Vector> {
+fn walk_ends() -> Vec<Corner> {
     let on = reading(2, mode(20, 5));
     vec![
         step("W3", "a place equal to the length", walk(idle(2), 320, on)),
@@ -130,44 +131,40 @@ fn three_wrong(after: &[u8]) -> Vec<u8> {
 }
 
 /// The steps of a whole walk as cases.
-fn whole_walk(id: &'static str, about: &str, recording: &[u8], mut state: ReaderState) -> Vec<Vector> {
-    let mut vectors = Vec::new();
+fn whole_walk(id: &'static str, about: &str, recording: &[u8], mut state: ReaderState) -> Vec<Corner> {
+    let mut cases = Vec::new();
     let mut walking = Walk::new(recording, 0);
     let mut before = None;
     while before != Some(walking) {
         before = Some(walking);
         let case = WalkCase { searching: walking.searching, ..walk(recording.to_vec(), walking.place, state) };
-        vectors.push(step(id, &format!("{about}, step {}", vectors.len() + 1), case));
+        cases.push(step(id, &format!("{about}, step {}", cases.len() + 1), case));
         let (mut voice, mut data) = ([0; 140], [0; 156]);
         let _ = walking.step(&mut state, &mut voice, &mut data);
     }
-    vectors
+    cases
 }
 
-fn walk_after_loss() -> Vec<Vector> {
+fn walk_after_loss() -> Vec<Corner> {
     let searching =
         |recording: Vec<u8>, place| WalkCase { searching: true, ..walk(recording, place, ReaderState::FRESH) };
     let found = three_wrong(&shifted(5, &idle(2)));
-    let mut vectors = whole_walk("W1", "three wrong words, then a new place", &found, ReaderState::FRESH);
-    vectors.push(step("W1", "the same place without a loss reads", walk(found.clone(), 485, ReaderState::FRESH)));
+    let mut cases = whole_walk("W1", "three wrong words, then a new place", &found, ReaderState::FRESH);
+    cases.push(step("W1", "the same place without a loss reads", walk(found.clone(), 485, ReaderState::FRESH)));
     let inside = shifted(330, &idle(3));
-    vectors.extend(whole_walk("W4", "an alignment inside the lost block is not found", &inside, ReaderState::FRESH));
-    vectors.push(step("W4", "the octet after the lost block is searched, too", searching(three_wrong(&idle(2)), 480)));
+    cases.extend(whole_walk("W4", "an alignment inside the lost block is not found", &inside, ReaderState::FRESH));
+    cases.push(step("W4", "the octet after the lost block is searched, too", searching(three_wrong(&idle(2)), 480)));
     for left in [0, 1, 159, 160, 167] {
         let recording = three_wrong(&idle(2)[..left]);
-        vectors.push(step("W5", &format!("{left} octets left after a lost block"), searching(recording, 480)));
+        cases.push(step("W5", &format!("{left} octets left after a lost block"), searching(recording, 480)));
     }
-    vectors.push(step("W5", "168 octets left after a lost block", searching(three_wrong(&idle(2)[..168]), 480)));
-    vectors.push(step(
-        "W6",
-        "a refused search (10) ends with many octets left",
-        searching(three_wrong(&[0; 1000]), 480),
-    ));
-    vectors.extend(whole_walk("W6", "three wrong words, then no place", &three_wrong(&[0; 200]), ReaderState::FRESH));
-    vectors
+    cases.push(step("W5", "168 octets left after a lost block", searching(three_wrong(&idle(2)[..168]), 480)));
+    cases.push(step("W6", "a refused search (10) ends with many octets left", searching(three_wrong(&[0; 1000]), 480)));
+    cases.extend(whole_walk("W6", "three wrong words, then no place", &three_wrong(&[0; 200]), ReaderState::FRESH));
+    cases
 }
 
-fn walk_states() -> Vec<Vector> {
+fn walk_states() -> Vec<Corner> {
     let busy = ReaderState { due: Due::Message(3), wrong_patterns: 1, ..reading(2, mode(20, 5)) };
     let recording = session(SenderState::FRESH, &[0x14, 0x65, 0x1F]);
     let searching = WalkCase { searching: true, ..walk(shifted(7, &recording), 1, busy) };
@@ -180,7 +177,7 @@ fn walk_states() -> Vec<Vector> {
 }
 
 /// 01's own sample, then each of its refusals.
-fn listings() -> Vec<Vector> {
+fn listings() -> Vec<Corner> {
     let sample = [idle(1), idle(2)[160..168].to_vec()].concat();
     let codes = [0x1F, 0x1F, 0x1F, 0x1F, 0x1F, 0x1F, 0x14, 0x65, 0xF0, 0x41, 0xF0, 0x18, 0x80];
     vec![
@@ -203,7 +200,7 @@ fn foreign_words() -> Vec<u8> {
     let words = [0x41, 0xF9, 0x02, 0x00, 0x18, 0xE0, 0xF0, 0x0A, 0xF0, 0x65];
     let mut recording = idle(6 + words.len());
     for (index, &code) in words.iter().enumerate() {
-        let line = super::forge::Line::new(1, code).octets;
+        let line = crate::forge::Line::new(1, code).octets;
         let start = (6 + index) * BLOCK_OCTETS;
         for offset in (8..16).chain(88..96) {
             recording[start + offset] = line[offset];
@@ -226,7 +223,7 @@ fn bad_octets() -> Vec<u8> {
     recording
 }
 
-fn listings_of_losses() -> Vec<Vector> {
+fn listings_of_losses() -> Vec<Corner> {
     let codes = [0x1F, 0x1F, 0x1F, 0x1F, 0x1F, 0x1F, 0x14, 0x65, 0x1F, 0x60, 0x14, 0x80, 0x80];
     let mut lost = session(SenderState::FRESH, &codes);
     for block in 8..11 {

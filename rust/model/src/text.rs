@@ -1,4 +1,4 @@
-//! How values stand in the text of the vectors.
+//! How values stand in printed text.
 
 use crate::codes::Mode;
 use crate::listing::{standing_name, verdict_name};
@@ -104,4 +104,27 @@ fn reading(reading: Reading) -> String {
         Reading::Unreadable => "unreadable".to_string(),
         Reading::NotRead => "not_read".to_string(),
     }
+}
+
+/// How many characters of a line are shown before and after the place where two lines part.
+const SHOWN: [usize; 2] = [24, 40];
+
+/// The first place where lines are not what they should be, with what stands around it; nothing where they are alike.
+pub fn difference(wanted: &[String], got: &[String]) -> Option<String> {
+    let line = |lines: &[String], index: usize| lines.get(index).cloned().unwrap_or_default();
+    let lines = wanted.len().max(got.len());
+    let index = (0..lines).find(|&index| wanted.get(index) != got.get(index))?;
+    let (wanted, got) = (line(wanted, index), line(got, index));
+    let place = wanted.bytes().zip(got.bytes()).take_while(|(one, other)| one == other).count();
+    let key = wanted.split(' ').next().unwrap_or_default();
+    let (wanted, got) = (around(&wanted, place), around(&got, place));
+    Some(format!("line {} ({key}) from character {} on\nwanted: {wanted}\ngot:    {got}", index + 1, place + 1))
+}
+
+/// What stands around a place of a line.
+fn around(line: &str, place: usize) -> String {
+    let [before, after] = SHOWN;
+    let (start, end) = (place.saturating_sub(before), line.len().min(place + after));
+    let (left, right) = (if start > 0 { ".." } else { "" }, if end < line.len() { ".." } else { "" });
+    format!("{left}{}{right}", line.get(start..end).unwrap_or_default())
 }

@@ -1,13 +1,13 @@
 //! States, line blocks and recordings made to order, for cases and tests.
 
-use super::case::{Case, ReaderCase, SenderCase, WalkCase};
-use super::random::Random;
-use super::Vector;
 use crate::bas;
 use crate::bits;
 use crate::codes::{Mode, AUDIO_OFF};
+use crate::corners::case::{Case, ReaderCase, SenderCase, WalkCase};
+use crate::corners::Corner;
 use crate::crc::crc4;
 use crate::frame::{Block, Half, BLOCK_OCTETS, DATA_OCTETS, VOICE_OCTETS};
+use crate::random::Random;
 use crate::reader::ReaderState;
 use crate::sender::SenderState;
 use crate::service::{self, Flags, MULTIFRAME_PATTERN};
@@ -18,8 +18,8 @@ pub fn filler(length: usize, kind: u64) -> Vec<u8> {
 }
 
 /// A named corner case.
-pub fn named(id: &'static str, about: &str, case: Case) -> Vector {
-    Vector { id: Some(id), about: about.to_string(), case }
+pub fn named(id: &'static str, about: &str, case: Case) -> Corner {
+    Corner { id, about: about.to_string(), case }
 }
 
 /// A mode of two values.

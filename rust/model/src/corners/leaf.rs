@@ -1,14 +1,15 @@
 //! Corner cases of presets, BAS words, CRC-4 and service rows.
 
 use super::case::Case;
-use super::forge::{filler, idle, named, sending, silent};
-use super::Vector;
+use super::Corner;
+use crate::forge::{filler, idle, named, sending, silent};
+
 use crate::bas;
 use crate::sender::SenderState;
 use crate::service::Flags;
 
 /// All of them.
-pub fn corners() -> Vec<Vector> {
+pub fn corners() -> Vec<Corner> {
     let groups = [presets_read(), presets_written(), words(), remainders(), rows()];
     groups.into_iter().flatten().collect()
 }
@@ -17,8 +18,8 @@ fn preset(audio: u16, data: u16, rest: u16) -> Case {
     Case::PresetRead((audio << 11 | data << 6 | rest).to_be_bytes().to_vec())
 }
 
-fn presets_read() -> Vec<Vector> {
-    let mut vectors = vec![
+fn presets_read() -> Vec<Corner> {
+    let mut cases = vec![
         named("P1", "two octets", preset(20, 5, 0)),
         named("P1", "no octet", Case::PresetRead(vec![])),
         named("P1", "one octet", Case::PresetRead(vec![0xA1])),
@@ -34,16 +35,16 @@ fn presets_read() -> Vec<Vector> {
         named("P5", "w = 1 under all data", preset(11, 13, 0)),
     ];
     for bit in 0..6 {
-        vectors.push(named("P1", "one of the six zeros set", preset(20, 5, 1 << bit)));
+        cases.push(named("P1", "one of the six zeros set", preset(20, 5, 1 << bit)));
     }
     for value in 0..32 {
-        vectors.push(named("P5", "each audio value", preset(value, 0, 0)));
-        vectors.push(named("P5", "each data value", preset(31, value, 0)));
+        cases.push(named("P5", "each audio value", preset(value, 0, 0)));
+        cases.push(named("P5", "each data value", preset(31, value, 0)));
     }
-    vectors
+    cases
 }
 
-fn presets_written() -> Vec<Vector> {
+fn presets_written() -> Vec<Corner> {
     let out_of_range = [
         SenderState { block: 0, ..sending(20, 5) },
         SenderState { remainder: 16, ..sending(20, 5) },
@@ -59,49 +60,49 @@ fn presets_written() -> Vec<Vector> {
         ("fresh", SenderState::FRESH),
         ("an item due", SenderState { item_due: true, ..sending(24, 4) }),
     ];
-    let mut vectors: Vec<Vector> = out_of_range
+    let mut cases: Vec<Corner> = out_of_range
         .into_iter()
         .map(|state| named("P2", "writing from a state out of range", Case::PresetWrite(state)))
         .collect();
     for (about, state) in in_range {
-        vectors.push(named("P4", about, Case::PresetWrite(state)));
+        cases.push(named("P4", about, Case::PresetWrite(state)));
     }
-    vectors
+    cases
 }
 
-fn words() -> Vec<Vector> {
-    let mut vectors = vec![
+fn words() -> Vec<Corner> {
+    let mut cases = vec![
         named("G8", "a whole word is mended by nothing", Case::ReadWord(bas::sent(0x1F))),
         named("G8", "a word of zeros is whole", Case::ReadWord([0, 0])),
         named("G8", "a word of ones cannot be mended", Case::ReadWord([0xFF, 0xFF])),
     ];
     for code in 0..=255 {
-        vectors.push(named("G8", "each check octet", Case::Check(code)));
-        vectors.push(named("G8", "each word as sent", Case::Sent(code)));
+        cases.push(named("G8", "each check octet", Case::Check(code)));
+        cases.push(named("G8", "each word as sent", Case::Sent(code)));
     }
     for index in 0..16 {
         for other in 0..=index {
             let flips = (0x8000_u16 >> index | 0x8000 >> other).to_be_bytes();
-            vectors.push(named("G8", "one or two bits wrong", Case::ReadWord(flips)));
+            cases.push(named("G8", "one or two bits wrong", Case::ReadWord(flips)));
         }
     }
     for odd in 0..=255 {
-        vectors.push(named("G8", "each remainder of code 00", Case::ReadWord([0, odd])));
+        cases.push(named("G8", "each remainder of code 00", Case::ReadWord([0, odd])));
     }
-    vectors
+    cases
 }
 
-fn remainders() -> Vec<Vector> {
-    let mut vectors = vec![
+fn remainders() -> Vec<Corner> {
+    let mut cases = vec![
         named("G7", "a block all 0", Case::Crc(vec![0; 160])),
         named("G7", "a block of ones", Case::Crc(vec![0xFF; 160])),
         named("G7", "block 2 of an idle session", Case::Crc(idle(2)[160..].to_vec())),
     ];
     for bit in [0, 1, 7, 8, 639, 640, 1271, 1272, 1278, 1279] {
-        vectors.push(named("G7", &format!("only bit {} of 1,280 is 1", bit + 1), Case::Crc(only(bit))));
+        cases.push(named("G7", &format!("only bit {} of 1,280 is 1", bit + 1), Case::Crc(only(bit))));
     }
     for octet in 80..=89 {
-        vectors.push(named("G7", &format!("only bit 8 of octet {} is 1", octet + 1), Case::Crc(only(8 * octet + 7))));
+        cases.push(named("G7", &format!("only bit 8 of octet {} is 1", octet + 1), Case::Crc(only(8 * octet + 7))));
     }
     let block = filler(160, 5);
     for c_bits in 0..16 {
@@ -109,9 +110,9 @@ fn remainders() -> Vec<Vector> {
         for index in 0..4 {
             with_c_bits[84 + index] = with_c_bits[84 + index] & 0xFE | (c_bits >> (3 - index) & 1);
         }
-        vectors.push(named("G7", "C1 to C4 have no part in the sum", Case::Crc(with_c_bits)));
+        cases.push(named("G7", "C1 to C4 have no part in the sum", Case::Crc(with_c_bits)));
     }
-    vectors
+    cases
 }
 
 fn only(bit: usize) -> Vec<u8> {
@@ -120,21 +121,21 @@ fn only(bit: usize) -> Vec<u8> {
     block
 }
 
-fn rows() -> Vec<Vector> {
-    let mut vectors = Vec::new();
+fn rows() -> Vec<Corner> {
+    let mut cases = Vec::new();
     for flags in 0..8 {
         let flags = Flags { a: flags & 4 != 0, e: flags & 2 != 0, t: flags & 1 != 0 };
-        vectors.push(named("G6", "each set of flags", Case::Service(flags, 0)));
+        cases.push(named("G6", "each set of flags", Case::Service(flags, 0)));
     }
     for remainder in 0..=15 {
-        vectors.push(named("G3", "each remainder", Case::Service(Flags::default(), remainder)));
+        cases.push(named("G3", "each remainder", Case::Service(Flags::default(), remainder)));
     }
     for remainder in [16, 17, 31, 99, 128, 240, 255] {
-        vectors.push(named(
+        cases.push(named(
             "G3",
             "of a larger remainder the low four bits count",
             Case::Service(Flags::default(), remainder),
         ));
     }
-    vectors
+    cases
 }
