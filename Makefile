@@ -22,6 +22,8 @@ soak:
 	@CASES=$(CASES) $(compare) --test linked -- --nocapture
 	@CASES=$(SERVED) $(compare) --test server -- --nocapture
 
+bench: of_bench = --quiet --offline --release --manifest-path rust/Cargo.toml -p bench --features contestants
 bench:
 	@sh tools/native
-	@cargo run --quiet --release --offline --manifest-path rust/Cargo.toml -p bench
+	@cargo test $(of_bench)
+	@cargo run $(of_bench)

@@ -1,5 +1,5 @@
-/* Codes and the bit places that they hold (01, "Codes and bit places"). Rules that touch no bit of a block are shared by the contestants in C;
- * each of them has its own way with the bits. Structs and numbers are those of the library's header; the rules are written from 01. */
+/* Codes and the bit places that they hold (01, "Codes and bit places"). These headers have the rules that touch no bit of a block. Structs and
+ * numbers are those of the library's header; the rules are written from 01. */
 #ifndef BENCH_CODES_H
 #define BENCH_CODES_H
 
@@ -20,11 +20,9 @@ static const uint8_t voice_bits[32] = {
     [24] = 7,          [25] = 6,          [26] = NOT_LISTED, [27] = 4,          [28] = 3,          [29] = 2,
     [30] = NOT_LISTED, [31] = 0};
 
-/* Data bits of an octet up to bit 7, by data value; and the octets of a frame, from 0, whose bit 8 is data. */
+/* Data bits of an octet up to bit 7, by data value. */
 enum { DATA_VALUES = 15 };
 static const uint8_t data_bits[DATA_VALUES] = {0, 0, 0, 0, 0, 1, 1, 1, 2, 3, 4, 5, 6, 7, 7};
-static const uint8_t data_first[DATA_VALUES] = {0, 37, 28, 32, 16, 0, 24, 16, 0, 0, 0, 0, 0, 0, 16};
-static const uint8_t data_end[DATA_VALUES] = {0, 40, 40, 80, 80, 0, 40, 80, 0, 0, 0, 0, 0, 0, 80};
 
 static inline uint8_t attribute_of(uint8_t code) { return code >> 5; }
 static inline uint8_t value_of(uint8_t code) { return code & 31; }

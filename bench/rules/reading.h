@@ -4,7 +4,7 @@
 
 #include "codes.h"
 
-/* A block's service channel, as a contestant gathers it: service bits and BAS word of both frames, and the remainder of the block. */
+/* A block's service channel, as it is gathered: service bits and BAS word of both frames, and the remainder of the block. */
 struct service {
     uint8_t even, odd, even_word, odd_word, remainder;
 };

@@ -1,4 +1,4 @@
-//! Compiles the contestants in C and the clock, and links them.
+//! Compiles the contestant in C and links it, where the feature `contestants` asks for it.
 
 use std::env;
 use std::fs;
@@ -8,6 +8,10 @@ use std::process::Command;
 const FLAGS: [&str; 7] = ["-O3", "-std=c11", "-Wall", "-Wextra", "-Werror", "-pedantic", "-fPIC"];
 
 fn main() {
+    println!("cargo:rerun-if-changed=build.rs");
+    if env::var_os("CARGO_FEATURE_CONTESTANTS").is_none() {
+        return;
+    }
     let root = PathBuf::from(env::var_os("CARGO_MANIFEST_DIR").expect("cargo names the package")).join("../..");
     let out = PathBuf::from(env::var_os("OUT_DIR").expect("cargo names a folder to write to"));
     link_contestants(&root, &out);

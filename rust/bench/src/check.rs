@@ -1,8 +1,11 @@
 //! Every contestant is held to the model: octets, answers and states.
 
+use std::fmt::Debug;
+
 use crate::contestants::{self, Contestant};
 use crate::forms::{Offer, ReadOutcome, Reader, SearchAnswer, SendAnswer, Sender, LINE, LSD, VOICE};
 use crate::inputs::{Case, Part, Work};
+use model::show::{parting, Octets};
 
 /// Room for every listing: 409 blocks, and a found line after each third of them.
 pub const TEXT: usize = 16_384;
@@ -14,34 +17,35 @@ const BEFORE: u8 = 0xA5;
 #[derive(Debug, PartialEq, Eq)]
 pub enum Left {
     /// A sending call: answer, state, line.
-    Send(SendAnswer, Sender, Vec<u8>),
+    Send(SendAnswer, Sender, Octets),
     /// A reading call: outcome, voice, lsd.
-    Read(ReadOutcome, Vec<u8>, Vec<u8>),
+    Read(ReadOutcome, Octets, Octets),
     /// A search.
     Search(SearchAnswer),
     /// A listing.
-    List(String),
+    List(Octets),
 }
 
 /// What a sending call leaves.
 pub fn send(contestant: &dyn Contestant, mut state: Sender, offer: &Offer, line_length: usize) -> Left {
     let mut line = vec![BEFORE; line_length];
     let answer = contestant.send(&mut state, offer, &mut line);
-    Left::Send(answer, state, line)
+    Left::Send(answer, state, Octets(line))
 }
 
 /// What a reading call leaves.
 pub fn read(contestant: &dyn Contestant, state: Reader, line: &[u8], lengths: [usize; 2]) -> Left {
     let [mut voice, mut lsd] = lengths.map(|length| vec![BEFORE; length]);
     let outcome = contestant.read(state, line, &mut voice, &mut lsd);
-    Left::Read(outcome, voice, lsd)
+    Left::Read(outcome, Octets(voice), Octets(lsd))
 }
 
 /// What a listing leaves.
 pub fn list(contestant: &dyn Contestant, recording: &[u8]) -> Left {
     let mut text = vec![BEFORE; TEXT];
     let length = contestant.list(recording, &mut text);
-    Left::List(String::from_utf8_lossy(&text[..length]).into_owned())
+    text.truncate(length);
+    Left::List(Octets(text))
 }
 
 fn lefts(contestant: &dyn Contestant, work: &Work) -> Vec<Left> {
@@ -57,16 +61,20 @@ fn lefts(contestant: &dyn Contestant, work: &Work) -> Vec<Left> {
     }
 }
 
-/// Holds a contestant to the model on one case; the error says where they part.
+/// Holds what a contestant leaves to what the model leaves; the error says where they part.
+pub fn same<L: PartialEq + Debug>(contestant: &dyn Contestant, about: &str, got: &L, wanted: &L) -> Result<(), String> {
+    if got == wanted {
+        return Ok(());
+    }
+    let (name, first) = (contestant.name(), parting(got, wanted));
+    Err(format!("{name} differs from the model: {about}\n{first}\n got {got:?}\nwant {wanted:?}"))
+}
+
+/// Holds a contestant to the model on one case.
 pub fn case(contestant: &dyn Contestant, case: &Case) -> Result<(), String> {
     let got = lefts(contestant, &case.work);
     let wanted = lefts(&contestants::yardstick(), &case.work);
-    match got.iter().zip(&wanted).find(|(got, wanted)| got != wanted) {
-        None => Ok(()),
-        Some((got, wanted)) => {
-            Err(format!("{} differs from the model: {}\n got {got:?}\nwant {wanted:?}", contestant.name(), case.label))
-        }
-    }
+    got.iter().zip(&wanted).try_for_each(|(got, wanted)| same(contestant, &case.label, got, wanted))
 }
 
 /// Holds every contestant to the model on everything that is timed.

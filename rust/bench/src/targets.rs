@@ -1,4 +1,4 @@
-//! The three targets of speed, each judged by its worst line.
+//! The two targets of speed, each judged by its worst line.
 
 use crate::table::{ratio_text, Row};
 
@@ -9,18 +9,22 @@ struct Target {
     least: f64,
 }
 
-const TARGETS: [Target; 3] = [
+const TARGETS: [Target; 2] = [
     // a twentieth is what two runs of the same program may differ by
     Target { says: "level with plain or better (0.95 counts as level)", other: "plain", least: 0.95 },
-    Target { says: "ten times bitwise", other: "bitwise", least: 10.0 },
     Target { says: "within twice limit", other: "limit", least: 0.5 },
 ];
 
-/// Prints the targets with yes or no and their worst lines; `tables` are titles with rows.
+/// Prints the targets with yes or no and their worst lines; `tables` are titles with rows. Without the contestants
+/// that they name there are none.
 pub fn print(names: &[&str], tables: &[(&str, Vec<Row>)]) {
+    let other = |target: &Target| names.iter().position(|&name| name == target.other);
+    let judged: Vec<_> = TARGETS.iter().filter_map(|target| Some((target, other(target)?))).collect();
+    if judged.is_empty() {
+        return;
+    }
     println!("\ntargets (a ratio is the other's time over ours; the worst line of all tables, and of each call)");
-    for target in &TARGETS {
-        let other = names.iter().position(|&name| name == target.other).expect("every target names a contestant");
+    for (target, other) in judged {
         let worst: Vec<_> = tables.iter().map(|(title, rows)| worst(title, rows, other)).collect();
         let all = worst.iter().min_by(|one, next| one.0.total_cmp(&next.0)).expect("there are tables");
         let verdict = if all.0 >= target.least { "yes" } else { "no" };

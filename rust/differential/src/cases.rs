@@ -4,10 +4,10 @@ use std::collections::BTreeSet;
 use std::env;
 
 use model::random::Random;
+use model::show;
 
 use crate::calls::Call;
 use crate::library::Library;
-use crate::show;
 
 /// The seed where `SEED` does not say otherwise.
 const SEED: u64 = 221;

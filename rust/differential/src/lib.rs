@@ -15,5 +15,4 @@ pub mod draw;
 pub mod library;
 pub mod linked;
 pub mod server;
-pub mod show;
 pub mod states;

@@ -20,5 +20,6 @@ pub mod recording;
 pub mod refusal;
 pub mod sender;
 pub mod service;
+pub mod show;
 pub mod slots;
 pub mod text;

@@ -1,10 +1,11 @@
 //! The implementations that are compared, each behind the same calls.
 
-mod bitwise;
 mod in_c;
+#[cfg(feature = "contestants")]
 mod limit;
 mod of_model;
 mod ours;
+#[cfg(feature = "contestants")]
 mod plain;
 
 use crate::forms::{Offer, ReadOutcome, Reader, SearchAnswer, SendAnswer, Sender};
@@ -23,15 +24,13 @@ pub trait Contestant {
     fn list(&self, recording: &[u8], text: &mut [u8]) -> usize;
 }
 
-/// All of them, the library first.
+/// All of them, the library first and the model last.
 pub fn all() -> Vec<Box<dyn Contestant>> {
-    vec![
-        Box::new(ours::CALLS),
-        Box::new(plain::Plain),
-        Box::new(bitwise::CALLS),
-        Box::new(limit::CALLS),
-        Box::new(of_model::Model),
-    ]
+    let mut all: Vec<Box<dyn Contestant>> = vec![Box::new(ours::CALLS)];
+    #[cfg(feature = "contestants")]
+    all.extend([Box::new(plain::Plain) as Box<dyn Contestant>, Box::new(limit::CALLS)]);
+    all.push(Box::new(of_model::Model));
+    all
 }
 
 /// The model, which all others are held to.

@@ -16,7 +16,9 @@ fn compare(call: &Read) {
     };
     let wanted = left(&contestants::yardstick());
     for contestant in contestants::all() {
-        assert_eq!(left(contestant.as_ref()), wanted, "{}: {call:?}", contestant.name());
+        let contestant = contestant.as_ref();
+        check::same(contestant, &format!("{call:?}"), &left(contestant), &wanted)
+            .unwrap_or_else(|difference| panic!("{difference}"));
     }
 }
 

@@ -4,20 +4,23 @@ use bench::check;
 use bench::contestants::{self, Contestant};
 use differential::draw;
 use model::random::Random;
+use model::show::Octets;
 
 fn compare_search(recording: &[u8], start: usize) {
     let wanted = contestants::yardstick().search(recording, start);
     for contestant in contestants::all() {
-        let got = contestant.search(recording, start);
-        assert_eq!(got, wanted, "{} from {start} on of {recording:02X?}", contestant.name());
+        let (contestant, about) = (contestant.as_ref(), format!("from {start} on of {:?}", Octets(recording.to_vec())));
+        check::same(contestant, &about, &contestant.search(recording, start), &wanted)
+            .unwrap_or_else(|difference| panic!("{difference}"));
     }
 }
 
 fn compare_listing(recording: &[u8]) {
     let wanted = check::list(&contestants::yardstick(), recording);
     for contestant in contestants::all() {
-        let got = check::list(contestant.as_ref(), recording);
-        assert!(got == wanted, "{} of {recording:02X?}: {got:?}", contestant.name());
+        let (contestant, about) = (contestant.as_ref(), format!("{:?}", Octets(recording.to_vec())));
+        check::same(contestant, &about, &check::list(contestant, recording), &wanted)
+            .unwrap_or_else(|difference| panic!("{difference}"));
     }
 }
 

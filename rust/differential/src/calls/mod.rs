@@ -20,8 +20,8 @@ use model::slots::Reading;
 use crate::server::{Answer, Request};
 use crate::states::{self, Reader};
 
-pub use crate::show::Octets;
 pub use listing::{List, ListLeft};
+pub use model::show::Octets;
 pub use presets::{ReadPreset, WritePreset};
 pub use reading::{Read, ReadLeft};
 pub use searching::{Search, SearchLeft};

@@ -1,4 +1,4 @@
-//! How calls and answers are printed: buffers cut short, and the first place where two answers part.
+//! How the calls and answers of a comparison are printed: buffers cut short, and the first place where two answers part.
 
 use std::fmt::{self, Debug};
 
@@ -22,10 +22,10 @@ impl Debug for Octets {
 }
 
 /// Where two answers part first: the field, which of its octets or numbers, counted from 1, and both values.
-pub fn parting<L: Debug>(library: &L, model: &L) -> String {
-    let [library, model] = [library, model].map(|left| format!("{left:.WHOLE$?}"));
-    let common = library.bytes().zip(model.bytes()).take_while(|(one, other)| one == other).count();
-    let head = &model[..common];
+pub fn parting<L: Debug>(got: &L, wanted: &L) -> String {
+    let [got, wanted] = [got, wanted].map(|left| format!("{left:.WHOLE$?}"));
+    let common = got.bytes().zip(wanted.bytes()).take_while(|(one, other)| one == other).count();
+    let head = &wanted[..common];
     let (field, value) = match head.rsplit_once(": ") {
         Some((names, value)) => (names.rsplit(' ').next().unwrap_or_default(), value),
         None => ("answer", head),
@@ -34,8 +34,8 @@ pub fn parting<L: Debug>(library: &L, model: &L) -> String {
         Some((_, digits)) => ("octet", digits.len() / 2, common - digits.len() % 2),
         None => ("number", value.matches(", ").count(), head.rfind([' ', '[', '(']).map_or(0, |index| index + 1)),
     };
-    let [library, model] = [&library, &model].map(|left| element(&left[start..]));
-    format!("{field}, {what} {}: library {library}, model {model}", before + 1)
+    let [got, wanted] = [&got, &wanted].map(|left| element(&left[start..]));
+    format!("{field}, {what} {}: {got}, by the model {wanted}", before + 1)
 }
 
 /// The first value of a text, cut short.
@@ -74,11 +74,11 @@ mod tests {
     fn the_first_difference_is_named() {
         let mut other = left();
         other.line.0[16] = 0x5A;
-        assert_eq!(parting(&left(), &other), "line, octet 17: library A5A5A5A5A5A5A5A5.., model 5AA5A5A5A5A5A5A5..");
+        assert_eq!(parting(&left(), &other), "line, octet 17: A5A5A5A5A5A5A5A5.., by the model 5AA5A5A5A5A5A5A5..");
         other.state[1] = 10;
-        assert_eq!(parting(&left(), &other), "state, number 2: library 0, model 10");
+        assert_eq!(parting(&left(), &other), "state, number 2: 0, by the model 10");
         other.kind = 2;
-        assert_eq!(parting(&left(), &other), "kind, number 1: library 0, model 2");
-        assert_eq!(parting(&([31, 31], 96, 0), &([31, 20], 96, 0)), "answer, number 2: library 31, model 20");
+        assert_eq!(parting(&left(), &other), "kind, number 1: 0, by the model 2");
+        assert_eq!(parting(&([31, 31], 96, 0), &([31, 20], 96, 0)), "answer, number 2: 31, by the model 20");
     }
 }
