@@ -1,6 +1,7 @@
 # `make demo` shows what the library does, `make test` runs every check, and `make soak` compares the library with the model in Rust for
 # longer: CASES (linked into one process), SERVED (called in C, through a server) and SEED can be given. `make bench` prints the library's
-# speed beside that of other implementations.
+# speed beside that of other implementations. BEFORE, an earlier libcard.a or a revision, adds the ratio of its time now to its time then;
+# the archive of a revision is built and proved first, which takes minutes.
 .PHONY: demo test soak bench
 
 demo:
@@ -25,5 +26,5 @@ soak:
 bench: of_bench = --quiet --offline --release --manifest-path rust/Cargo.toml -p bench --features contestants
 bench:
 	@sh tools/native
-	@cargo test $(of_bench)
-	@cargo run $(of_bench)
+	@before=; [ -z "$(BEFORE)" ] || before=$$(sh bench/before "$(BEFORE)") || exit 1; export DELAMPUK_BEFORE=$$before; \
+		cargo test $(of_bench) --test all && cargo run $(of_bench)

@@ -48,13 +48,19 @@ fn calls_of_sample(run: &Run) -> usize {
     calls
 }
 
-fn median(mut times: Vec<f64>) -> f64 {
+/// The one in the middle.
+pub fn median(mut times: Vec<f64>) -> f64 {
     times.sort_by(f64::total_cmp);
     times[times.len() / 2]
 }
 
-/// Nanoseconds of one call of each contestant.
+/// Nanoseconds of one call of each contestant: the medians of all rounds.
 pub fn medians(runs: &[Run]) -> Vec<f64> {
+    rounds(runs).into_iter().map(median).collect()
+}
+
+/// Nanoseconds of one call of each contestant, round by round.
+pub fn rounds(runs: &[Run]) -> Vec<Vec<f64>> {
     let calls: Vec<usize> = runs.iter().map(calls_of_sample).collect();
     let mut times = vec![Vec::new(); runs.len()];
     for _ in 0..ROUNDS {
@@ -62,5 +68,5 @@ pub fn medians(runs: &[Run]) -> Vec<f64> {
             times.push(run(calls) as f64 / calls as f64);
         }
     }
-    times.into_iter().map(median).collect()
+    times
 }

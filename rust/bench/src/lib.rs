@@ -6,6 +6,7 @@
 //!
 //! Without the feature `contestants` the library has the model alone beside it.
 
+pub mod before;
 pub mod check;
 pub mod clock;
 pub mod contestants;

@@ -3,7 +3,7 @@
 use std::process::ExitCode;
 
 use bench::table::Row;
-use bench::{check, clock, contestants, inputs, measure, table, targets};
+use bench::{before, check, clock, contestants, inputs, measure, table, targets};
 
 fn main() -> ExitCode {
     let contestants = contestants::all();
@@ -27,5 +27,6 @@ fn main() -> ExitCode {
         tables.push((part.title, rows));
     }
     targets::print(&names, &tables);
+    before::print(&parts);
     ExitCode::SUCCESS
 }

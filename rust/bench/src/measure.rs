@@ -52,7 +52,15 @@ fn run(contestant: &dyn Contestant, work: &Work, calls: usize) {
 
 /// Nanoseconds of one call of each contestant.
 pub fn case(contestants: &[Box<dyn Contestant>], case: &Case) -> Vec<f64> {
-    let timed = |one| Box::new(move |calls| time_of(|| run(one, &case.work, calls))) as Run;
-    let runs: Vec<Run> = contestants.iter().map(|one| timed(one.as_ref())).collect();
-    clock::medians(&runs)
+    clock::medians(&runs(contestants, case))
+}
+
+/// Nanoseconds of one call of each contestant, round by round.
+pub fn rounds(contestants: &[Box<dyn Contestant>], case: &Case) -> Vec<Vec<f64>> {
+    clock::rounds(&runs(contestants, case))
+}
+
+fn runs<'a>(contestants: &'a [Box<dyn Contestant>], case: &'a Case) -> Vec<Run<'a>> {
+    let timed = |one: &'a dyn Contestant| Box::new(move |calls| time_of(|| run(one, &case.work, calls))) as Run;
+    contestants.iter().map(|one| timed(one.as_ref())).collect()
 }

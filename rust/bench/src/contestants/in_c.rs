@@ -92,3 +92,42 @@ impl Contestant for InC {
         unsafe { (self.list)(recording.as_ptr(), recording.len(), text.as_mut_ptr(), text.len()) }
     }
 }
+
+/// Declares the calls of a contestant by their names in C.
+#[cfg(any(feature = "contestants", before))]
+macro_rules! calls {
+    ($name:literal, $send:ident, $read:ident, $search:ident, $list:ident) => {
+        extern "C" {
+            fn $send(
+                state: *mut crate::forms::Sender,
+                mute: u8,
+                code: u8,
+                a: u8,
+                e: u8,
+                t: u8,
+                voice: *const u8,
+                voice_length: usize,
+                lsd: *const u8,
+                lsd_length: usize,
+                line: *mut u8,
+                line_length: usize,
+            ) -> crate::forms::SendAnswer;
+            fn $read(
+                state: crate::forms::Reader,
+                line: *const u8,
+                line_length: usize,
+                voice: *mut u8,
+                voice_length: usize,
+                lsd: *mut u8,
+                lsd_length: usize,
+            ) -> crate::forms::ReadOutcome;
+            fn $search(recording: *const u8, length: usize, start: usize) -> crate::forms::SearchAnswer;
+            fn $list(recording: *const u8, length: usize, text: *mut u8, text_length: usize) -> usize;
+        }
+        /// The calls of this contestant.
+        pub const CALLS: crate::contestants::in_c::InC =
+            crate::contestants::in_c::InC { name: $name, send: $send, read: $read, search: $search, list: $list };
+    };
+}
+#[cfg(any(feature = "contestants", before))]
+pub(super) use calls;

@@ -1,5 +1,7 @@
 //! The implementations that are compared, each behind the same calls.
 
+#[cfg(before)]
+mod before;
 mod in_c;
 #[cfg(feature = "contestants")]
 mod limit;
@@ -26,11 +28,24 @@ pub trait Contestant {
 
 /// All of them, the library first and the model last.
 pub fn all() -> Vec<Box<dyn Contestant>> {
-    let mut all: Vec<Box<dyn Contestant>> = vec![Box::new(ours::CALLS)];
+    let mut all = vec![ours()];
     #[cfg(feature = "contestants")]
     all.extend([Box::new(plain::Plain) as Box<dyn Contestant>, Box::new(limit::CALLS)]);
     all.push(Box::new(of_model::Model));
     all
+}
+
+/// The library as it is.
+pub fn ours() -> Box<dyn Contestant> {
+    Box::new(ours::CALLS)
+}
+
+/// The library out of an earlier archive, if one is linked.
+pub fn before() -> Option<Box<dyn Contestant>> {
+    #[cfg(before)]
+    return Some(Box::new(before::CALLS));
+    #[cfg(not(before))]
+    None
 }
 
 /// The model, which all others are held to.
