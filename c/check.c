@@ -150,6 +150,18 @@ static void switches(void) {
     CHECK(memcmp(&with, &lent, sizeof with) != 0);
 }
 
+/* A and E stand in the odd frame's bits 3 and 4, and T in bit 1 of frame 14, which block 8 begins. */
+static void alarms(void) {
+    for (uint8_t given = 0; given < 8; given++) {
+        struct delampuk_sender state = delampuk_fresh_sender();
+        state.block = 8;
+        fill();
+        delampuk_send(&state, 0, 0x80, given >> 2, given >> 1 & 1, given & 1, lent.voice, 140, lent.lsd, 156, lent.line, 160);
+        CHECK(service(lent.line, 82, 2) == given >> 1);
+        CHECK(service(lent.line, 0, 1) == (given & 1));
+    }
+}
+
 /* An item goes before mute's "audio off"; released, the chosen audio comes back. Both hold the offered code. */
 static void mute_on_an_escape(void) {
     struct delampuk_sender state = after((const uint8_t[]){0x19, 0xF0}, 2);
@@ -461,6 +473,7 @@ static void listings(void) {
 int main(void) {
     first_block();
     switches();
+    alarms();
     mute_on_an_escape();
     refusals_of_sending();
     presets();
