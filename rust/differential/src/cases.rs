@@ -8,6 +8,7 @@ use model::show;
 
 use crate::calls::Call;
 use crate::library::Library;
+use crate::smaller;
 
 /// The seed where `SEED` does not say otherwise.
 const SEED: u64 = 221;
@@ -31,17 +32,25 @@ impl<L: Library> Trial<'_, L> {
         self.reached.calls += 1;
         self.reached.outcomes.extend(C::outcome(&left));
         if left != expected {
-            let again = format!(
-                "SEED={} CASE={} cargo test --offline --release -p differential --test {} {}",
-                self.seed,
-                self.number,
-                L::TEST,
-                self.name
-            );
-            let first = show::parting(&left, &expected);
-            panic!("the library and the model differ\nfirst:   {first}\nagain:   {again}\ncall:    {call:?}\nlibrary: {left:?}\nmodel:   {expected:?}");
+            self.tell(call, left, expected);
         }
         left
+    }
+
+    /// Ends the test. The call is told without those before it, as it is given its whole state, and as small as it still
+    /// differs. How the case is run again is told first: a smaller call may end the library's server or the model.
+    fn tell<C: Call>(&mut self, call: &C, left: C::Left, expected: C::Left) -> ! {
+        let Trial { seed, number, name, library, .. } = self;
+        let test = L::TEST;
+        eprintln!(
+            "again:   SEED={seed} CASE={number} cargo test --offline --release -p differential --test {test} {name}"
+        );
+        let (call, (left, expected)) = smaller::smallest(call.clone(), (left, expected), |call| {
+            let (left, expected) = (library.call(call), call.expected());
+            (left != expected).then_some((left, expected))
+        });
+        let first = show::parting(&left, &expected);
+        panic!("the library and the model differ; the call is made smaller\nfirst:   {first}\ncall:    {call:?}\nlibrary: {left:?}\nmodel:   {expected:?}");
     }
 }
 

@@ -4,12 +4,11 @@ use model::codes::{Mode, AUDIO_OFF};
 use model::forge::{first_bits_before, Line};
 use model::frame::{BLOCK_OCTETS, DATA_OCTETS, VOICE_OCTETS};
 use model::random::Random;
-use model::sender::SenderState;
 use model::service;
 use model::{bas, bits};
 
 use crate::calls::{Octets, Read, Send};
-use crate::states::{self, Reader, Sender};
+use crate::states::{Reader, Sender};
 
 /// A mode that a state may hold.
 fn mode(random: &mut Random) -> Mode {
@@ -303,9 +302,4 @@ pub fn place(random: &mut Random, length: usize) -> usize {
         7..=12 => 0,
         _ => random.below(length + 1),
     }
-}
-
-/// A fresh sender's octets.
-pub fn fresh_sender() -> Sender {
-    states::sender_octets(&SenderState::FRESH)
 }

@@ -7,7 +7,8 @@
 //!   goes to the model then, and more cases can be tried.
 //!
 //! Cases are drawn from a seed. `SEED` chooses another one, `CASES` how many cases are tried, and `CASE` a single
-//! one of them, as a difference prints it.
+//! one of them, as a difference prints it. The call that a difference prints is not the drawn one, but a
+//! [`smaller`] one that differs too.
 
 pub mod calls;
 pub mod cases;
@@ -15,4 +16,5 @@ pub mod draw;
 pub mod library;
 pub mod linked;
 pub mod server;
+pub mod smaller;
 pub mod states;

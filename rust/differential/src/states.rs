@@ -25,6 +25,16 @@ pub type Sender = [u8; 6];
 /// before, remainder.
 pub type Reader = [u8; 12];
 
+/// A fresh sender's octets.
+pub fn fresh_sender() -> Sender {
+    sender_octets(&SenderState::FRESH)
+}
+
+/// A fresh reader's octets.
+pub fn fresh_reader() -> Reader {
+    reader_octets(&ReaderState::FRESH).expect("the library has a fresh state")
+}
+
 /// The model's state of a sender's octets.
 pub fn sender(octets: Sender) -> SenderState {
     let [chosen, in_force, data, block, due, remainder] = octets;

@@ -2,22 +2,29 @@
 
 use std::fmt::{self, Debug};
 
-/// So many octets of a buffer are printed.
-const SHOWN: usize = 16;
+use crate::text;
+
+/// The most characters that are printed of a buffer.
+const SHOWN: usize = 64;
+
+/// The most characters that are printed of a value where two answers part.
+const SHOWN_OF_VALUE: usize = 16;
 
 /// More than any answer's buffer has.
 const WHOLE: usize = u16::MAX as usize;
 
-/// Octets of a buffer. They print as their number and hex digits: of the first sixteen, or as many as a precision says.
+/// Octets of a buffer. They print as their number and hex digits, with a count where an octet stands many times; after
+/// 64 characters they are cut. With a precision they print as the digits of that many octets.
 #[derive(Clone, PartialEq, Eq)]
 pub struct Octets(pub Vec<u8>);
 
 impl Debug for Octets {
     fn fmt(&self, out: &mut fmt::Formatter) -> fmt::Result {
-        let shown = self.0.len().min(out.precision().unwrap_or(SHOWN));
-        write!(out, "{}:", self.0.len())?;
-        self.0[..shown].iter().try_for_each(|octet| write!(out, "{octet:02X}"))?;
-        out.write_str(if shown < self.0.len() { ".." } else { "" })
+        let octets = match out.precision() {
+            Some(most) => text::hex(&self.0[..most.min(self.0.len())]),
+            None => cut(&text::octets(&self.0), SHOWN),
+        };
+        write!(out, "{}:{octets}", self.0.len())
     }
 }
 
@@ -40,10 +47,14 @@ pub fn parting<L: Debug>(got: &L, wanted: &L) -> String {
 
 /// The first value of a text, cut short.
 fn element(text: &str) -> String {
-    let value = text.split([',', ' ', ']', ')']).next().unwrap_or_default();
-    match value.get(..SHOWN) {
-        Some(cut) if cut.len() < value.len() => format!("{cut}.."),
-        _ => value.to_string(),
+    cut(text.split([',', ' ', ']', ')']).next().unwrap_or_default(), SHOWN_OF_VALUE)
+}
+
+/// The first characters of a text, at most `most`.
+fn cut(text: &str, most: usize) -> String {
+    match text.get(..most) {
+        Some(cut) if cut.len() < text.len() => format!("{cut}.."),
+        _ => text.to_string(),
     }
 }
 
@@ -65,9 +76,16 @@ mod tests {
 
     #[test]
     fn a_long_buffer_is_cut() {
-        let printed = format!("{:?}", Octets(vec![0xA5; 70_000]));
-        assert_eq!(printed, format!("70000:{}..", "A5".repeat(16)));
+        let printed = format!("{:?}", Octets([0x5A, 0xA5].repeat(35_000)));
+        assert_eq!(printed, format!("70000:{}..", "5AA5".repeat(16)));
         assert_eq!(format!("{:?}", Octets(vec![1, 2])), "2:0102");
+    }
+
+    #[test]
+    fn an_octet_among_zeros_is_shown() {
+        let mut octets = vec![0; 70_000];
+        octets[65_536] = 0x5A;
+        assert_eq!(format!("{:?}", Octets(octets)), "70000:00*65536+5A+00*4463");
     }
 
     #[test]

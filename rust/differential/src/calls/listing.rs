@@ -5,6 +5,7 @@ use std::io;
 use super::{Call, Octets};
 use crate::linked::Room;
 use crate::server::{Answer, Request};
+use crate::smaller::Field;
 
 /// `delampuk_list`.
 #[derive(Clone, Debug)]
@@ -51,6 +52,10 @@ impl Call for List {
         let fits = listing.len().min(text.len());
         text[..fits].copy_from_slice(&listing.as_bytes()[..fits]);
         ListLeft { length: listing.len().min(text.len() + 1), kept: 1, text: Octets(text) }
+    }
+
+    fn fields(&mut self) -> Vec<Field<'_>> {
+        vec![Field::Buffer(&mut self.recording), Field::Buffer(&mut self.text)]
     }
 
     fn outcome(left: &ListLeft) -> Vec<String> {

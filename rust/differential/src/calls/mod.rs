@@ -18,6 +18,7 @@ use model::reader::{BlockAnswer, ReaderState, Standing, Verdict};
 use model::slots::Reading;
 
 use crate::server::{Answer, Request};
+use crate::smaller::Field;
 use crate::states::{self, Reader};
 
 pub use listing::{List, ListLeft};
@@ -29,7 +30,7 @@ pub use sending::{Fresh, Send, SendLeft};
 pub use walking::{StepLeft, WalkStep};
 
 /// A call with all that it is given.
-pub trait Call: Debug {
+pub trait Call: Clone + Debug {
     /// What it leaves.
     type Left: PartialEq + Debug;
 
@@ -44,6 +45,9 @@ pub trait Call: Debug {
 
     /// What the call has to leave by the model.
     fn expected(&self) -> Self::Left;
+
+    /// What the call is given, field by field, so that it can be made smaller.
+    fn fields(&mut self) -> Vec<Field<'_>>;
 
     /// Names for what became of the call, by which a test can ask that its cases reach them all.
     fn outcome(_left: &Self::Left) -> Vec<String> {

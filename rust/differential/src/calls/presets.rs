@@ -3,15 +3,15 @@
 use std::io;
 
 use model::preset;
-use model::sender::SenderState;
 
 use super::Call;
 use crate::server::{Answer, Request};
+use crate::smaller::Field;
 use crate::states::{self, Sender};
 
 /// A driver that does not look at the number starts fresh and offers "data off", (011)[0].
 fn no_preset(number: u8) -> (Sender, u8, u8) {
-    (states::sender_octets(&SenderState::FRESH), 0x60, number)
+    (states::fresh_sender(), 0x60, number)
 }
 
 /// `delampuk_read_preset`.
@@ -46,6 +46,11 @@ impl Call for ReadPreset {
             Err(refusal) => no_preset(refusal.number()),
         }
     }
+
+    /// Sixteen bits are small as they are.
+    fn fields(&mut self) -> Vec<Field<'_>> {
+        Vec::new()
+    }
 }
 
 /// `delampuk_write_preset`.
@@ -79,5 +84,9 @@ impl Call for WritePreset {
             Ok(bits) => (bits, 0),
             Err(refusal) => (0, refusal.number()),
         }
+    }
+
+    fn fields(&mut self) -> Vec<Field<'_>> {
+        vec![Field::Octets(&mut self.state, states::fresh_sender().into())]
     }
 }

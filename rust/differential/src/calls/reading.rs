@@ -7,6 +7,7 @@ use model::reader;
 use super::{by_model, by_wrapper, left_by_block, Block, Call, Octets, NO_BLOCK};
 use crate::linked::Room;
 use crate::server::{Answer, Request};
+use crate::smaller::Field;
 use crate::states::{self, Reader};
 
 /// `delampuk_read`.
@@ -80,6 +81,15 @@ impl Call for Read {
             Err(refusal) => (self.state, 1, refusal.number(), NO_BLOCK),
         };
         ReadLeft { state, kind, number, block, kept: 1, voice, lsd }
+    }
+
+    fn fields(&mut self) -> Vec<Field<'_>> {
+        vec![
+            Field::Octets(&mut self.state, states::fresh_reader().into()),
+            Field::Buffer(&mut self.line),
+            Field::Buffer(&mut self.voice),
+            Field::Buffer(&mut self.lsd),
+        ]
     }
 
     fn outcome(left: &ReadLeft) -> Vec<String> {

@@ -7,6 +7,7 @@ use model::recording;
 use super::{Call, Octets};
 use crate::linked::Room;
 use crate::server::{Answer, Request};
+use crate::smaller::Field;
 
 /// `delampuk_search`.
 #[derive(Clone, Debug)]
@@ -55,6 +56,10 @@ impl Call for Search {
             Err(refusal) => (refusal.number(), 0),
         };
         SearchLeft { number, place, kept: 1 }
+    }
+
+    fn fields(&mut self) -> Vec<Field<'_>> {
+        vec![Field::Recording(&mut self.recording, &mut self.start)]
     }
 
     fn outcome(left: &SearchLeft) -> Vec<String> {

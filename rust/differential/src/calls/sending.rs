@@ -1,19 +1,19 @@
 //! The fresh states, and `delampuk_send`.
 
-use std::io;
+use std::{io, slice};
 
 use delampuk::Sent;
-use model::reader::ReaderState;
-use model::sender::{self, Answer as Fate, SenderState};
+use model::sender::{self, Answer as Fate};
 use model::service::Flags;
 
-use super::{left_by_block, Call, Octets};
+use super::{Call, Octets};
 use crate::linked::Room;
 use crate::server::{Answer, Request};
+use crate::smaller::Field;
 use crate::states::{self, Reader, Sender};
 
 /// The two fresh states.
-#[derive(Debug)]
+#[derive(Clone, Debug)]
 pub struct Fresh;
 
 impl Call for Fresh {
@@ -32,7 +32,11 @@ impl Call for Fresh {
     }
 
     fn expected(&self) -> Self::Left {
-        (states::sender_octets(&SenderState::FRESH), left_by_block(&ReaderState::FRESH))
+        (states::fresh_sender(), states::fresh_reader())
+    }
+
+    fn fields(&mut self) -> Vec<Field<'_>> {
+        Vec::new()
     }
 }
 
@@ -119,6 +123,18 @@ impl Call for Send {
             Err(refusal) => (2, refusal.number(), self.state),
         };
         SendLeft { kind, number, state, kept: 1, line }
+    }
+
+    fn fields(&mut self) -> Vec<Field<'_>> {
+        vec![
+            Field::Octets(&mut self.state, states::fresh_sender().into()),
+            Field::Octets(slice::from_mut(&mut self.mute), vec![0]),
+            Field::Octets(slice::from_mut(&mut self.code), vec![0x80]),
+            Field::Octets(&mut self.flags, vec![0; 3]),
+            Field::Buffer(&mut self.voice),
+            Field::Buffer(&mut self.lsd),
+            Field::Buffer(&mut self.line),
+        ]
     }
 
     fn outcome(left: &SendLeft) -> Vec<String> {

@@ -1,6 +1,6 @@
 //! `delampuk_step`.
 
-use std::io;
+use std::{io, slice};
 
 use model::recording::{Step, Walk};
 use model::refusal::Refusal;
@@ -8,6 +8,7 @@ use model::refusal::Refusal;
 use super::{by_model, by_wrapper, left_by_block, Block, Call, Octets, NO_BLOCK};
 use crate::linked::Room;
 use crate::server::{Answer, Request};
+use crate::smaller::Field;
 use crate::states::{self, Reader};
 
 /// `delampuk_step`.
@@ -121,6 +122,16 @@ impl Call for WalkStep {
             voice,
             lsd,
         }
+    }
+
+    fn fields(&mut self) -> Vec<Field<'_>> {
+        vec![
+            Field::Recording(&mut self.recording, &mut self.place),
+            Field::Octets(&mut self.state, states::fresh_reader().into()),
+            Field::Octets(slice::from_mut(&mut self.lost), vec![0]),
+            Field::Buffer(&mut self.voice),
+            Field::Buffer(&mut self.lsd),
+        ]
     }
 
     fn outcome(left: &StepLeft) -> Vec<String> {

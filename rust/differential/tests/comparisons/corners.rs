@@ -9,7 +9,7 @@ use model::codes::Mode;
 use model::corners::case::{Case, ReaderCase, SenderCase, WalkCase};
 use model::corners::{outcome, stored};
 use model::forge::{self, Line};
-use model::reader::{BlockAnswer, ReaderState, Standing, Verdict};
+use model::reader::{BlockAnswer, Standing, Verdict};
 use model::recording::Step;
 use model::sender::{Answer, SenderState};
 use model::service::Flags;
@@ -180,7 +180,7 @@ fn word_read(trial: &mut Trial, word: [u8; 2]) -> Option<u8> {
 
 /// The reader keeps the remainder of the block that it has read.
 fn remainder(trial: &mut Trial, block: Vec<u8>) -> u8 {
-    let state = states::reader_octets(&ReaderState::FRESH).expect("the library has a fresh state");
+    let state = states::fresh_reader();
     let (voice, lsd) = (Octets(vec![0; 140]), Octets(vec![0; 156]));
     states::reader(trial.call(&Read { state, line: Octets(block), voice, lsd }).state).remainder
 }

@@ -1,11 +1,10 @@
 //! `delampuk_read`.
 
 use differential::draw;
-use differential::states::{self, Reader};
+use differential::states;
 use model::codes::Mode;
 use model::forge::{self, Line};
 use model::frame::BLOCK_OCTETS;
-use model::reader::ReaderState;
 
 use super::{run, Trial};
 
@@ -55,7 +54,7 @@ fn every_word_is_read() {
 #[test]
 fn remainder_of_each_bit() {
     run("remainder_of_each_bit", u64::MAX, |trial| {
-        let state = states::reader_octets(&ReaderState::FRESH).expect("the library has a fresh state");
+        let state = states::fresh_reader();
         for bit in 0..8 * BLOCK_OCTETS {
             let mut line = vec![0; BLOCK_OCTETS];
             line[bit / 8] = 0x80 >> (bit % 8);
@@ -91,7 +90,7 @@ fn damaged_sessions() {
 /// Reads block after block, each call going on from the octets that the library left; what is over at the end is
 /// refused for its length.
 fn read_all(trial: &mut Trial, session: &[u8]) {
-    let mut state: Reader = states::reader_octets(&ReaderState::FRESH).expect("the library has a fresh state");
+    let mut state = states::fresh_reader();
     for line in session.chunks(160) {
         let call = draw::read_on(&mut trial.random, state, line.to_vec());
         state = trial.call(&call).state;

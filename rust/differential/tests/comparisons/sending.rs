@@ -2,6 +2,7 @@
 
 use differential::calls::{Fresh, Send};
 use differential::draw;
+use differential::states;
 
 use super::{run, Trial};
 
@@ -55,7 +56,7 @@ fn sender_takes_every_octet_in_each_field() {
 fn sending_sessions() {
     run("sending_sessions", 20, |trial| {
         let from_preset = trial.random.percent(50);
-        let mut state = if from_preset { draw::sender_in_range(&mut trial.random) } else { draw::fresh_sender() };
+        let mut state = if from_preset { draw::sender_in_range(&mut trial.random) } else { states::fresh_sender() };
         for _ in 0..40 {
             state = send_some(trial, state);
         }

@@ -4,7 +4,6 @@ use differential::calls::{Octets, WalkStep};
 use differential::draw;
 use differential::states;
 use model::frame::{BLOCK_OCTETS, DATA_OCTETS, VOICE_OCTETS};
-use model::reader::ReaderState;
 use model::recording;
 
 use super::{run, Trial};
@@ -44,7 +43,7 @@ fn whole_walks() {
 fn walk(trial: &mut Trial, recording: Vec<u8>) {
     let place = recording::search(&recording, 0).unwrap_or(0);
     let mut step = WalkStep {
-        state: states::reader_octets(&ReaderState::FRESH).expect("the library has a fresh state"),
+        state: states::fresh_reader(),
         lost: 0,
         place,
         recording: Octets(recording),
