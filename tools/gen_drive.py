@@ -31,7 +31,7 @@ described = {}
 exec(open(sys.argv[1]).read(), described)
 CRATE, NAME, CALLEE = described["crate"], described["fn"], described["callee"]
 STATE_CRATE, STATE = described["state"]
-STEPPED, ANSWER = described["stepped"], described["answer"]
+STEPPED, (ANSWER_CRATE, ANSWER) = described["stepped"], described["answer"]
 STATE_AT, STATE_FIELD, ANSWER_AT, ANSWER_FIELD = described["fields"]
 DEF, SPEC = described["definition"], described["spec"]
 params = described["params"]
@@ -268,7 +268,7 @@ def imports():
     say("use %s%s.{%s}" % (specs, SPEC, ", ".join([DEF] + [p[1][1] for p in muts])))
     say("use Rattle.%s.specs.declared.%s.{%s}" % (STATE_CRATE, STATE, STATE))
     say("use %sdeclared.%s.{%s}" % (specs, STEPPED, STEPPED))
-    for module, name in [("Rattle.%s.proofs.%s" % (STATE_CRATE, STATE), "T"), (proofs + STEPPED, "S"), (proofs + ANSWER, "N")]:
+    for module, name in [("Rattle.%s.proofs.%s" % (STATE_CRATE, STATE), "T"), (proofs + STEPPED, "S"), ("Rattle.%s.proofs.%s" % (ANSWER_CRATE, ANSWER), "N")]:
         say("use %s as %s\nuse %s.Laws as %s′" % (module, name, module, name))
     say("use %s%s as %s" % (proofs, CALLEE, called))
     say("use %s%s.Symbol as %s-def" % (proofs, CALLEE, callee))

@@ -22,6 +22,14 @@ pub or-right : (a b : Bool) → (a ≡ true → ⊥) → (a || b) ≡ true → b
 or-right true b no-a e = absurd (no-a refl)
 or-right false b no-a e = e
 
+pub or-left-false : (a b : Bool) → (a || b) ≡ false → a ≡ false
+or-left-false true b h = h
+or-left-false false b h = refl
+
+pub or-right-false : (a b : Bool) → (a || b) ≡ false → b ≡ false
+or-right-false true b h = cc
+or-right-false false b h = h
+
 abbrev pub everyBelow : ℕ → (ℕ → Bool) → Bool
 everyBelow zero p = true
 everyBelow (suc n) p = p n && everyBelow n p

@@ -1,12 +1,9 @@
 pub mod BitLaws
-pub mod CrcLaws
 pub mod EightLaws
 pub mod Every
-pub mod FoldLaws
 pub mod PackLaws
 pub mod RemainderLaws
 pub mod RunLaws
 pub mod Settled
 pub mod ShiftLaws
-pub mod SumLaws
 pub mod Table

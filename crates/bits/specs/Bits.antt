@@ -19,6 +19,13 @@ lowBits (suc k) n = odd (n / 2 ^ k) ∷ lowBits k n
 abbrev pub octetBits : ℕ → List Bool
 octetBits x = lowBits 8 x
 
+-- the service channel (SC) is in bit 8 of an octet, its lowest: that bit, and the octet with that bit 0
+abbrev pub scBit : ℕ → Bool
+scBit octet = odd octet
+
+abbrev pub withoutSc : ℕ → ℕ
+withoutSc octet = octet / 2 * 2
+
 -- octets in sending order
 unfoldable pub bitsOf : List ℕ → List Bool
 bitsOf [] = []

@@ -8,16 +8,17 @@ use native.Mathlib.Nat.{suc-ne-zero}
 use borrow.Author.Tests.{ne-eqb}
 use Rattle.bits.proofs.Settled.{settled}
 use Rattle.reader.specs.Step.{Told}
-use Rattle.reader.specs.declared.Reader.{Reader}
+use Rattle.track.specs.declared.Reader.{Reader}
 use Rattle.reader.specs.declared.Outcome.{Outcome}
 use Rattle.recording.specs.declared.Stepped.{Stepped}
 use Rattle.recording.proofs.StepLaws.{Left}
+use Rattle.answers.specs.Answers.{readAnswerOf, stepAnswerOf}
 use Rattle.card.specs.Sending.{on}
-use Rattle.card.specs.Reading.{readAnswerOf, readOutcomeOf, ReadTold}
-use Rattle.card.specs.Walking.{stepAnswerOf, markAfter, stepOutcomeOf, StepTold}
-use Rattle.card.specs.declared.ReadAnswer.{ReadAnswer}
+use Rattle.card.specs.Reading.{readOutcomeOf, ReadTold}
+use Rattle.card.specs.Walking.{markAfter, stepOutcomeOf, StepTold}
+use Rattle.answers.specs.declared.ReadAnswer.{ReadAnswer}
 use Rattle.card.specs.declared.ReadOutcome.{ReadOutcome}
-use Rattle.card.specs.declared.StepAnswer.{StepAnswer}
+use Rattle.answers.specs.declared.StepAnswer.{StepAnswer}
 use Rattle.card.specs.declared.StepOutcome.{StepOutcome}
 
 module _ (s : Reader) (line voice lsd : List ℕ) where

@@ -4,12 +4,11 @@ use mathlib.Core.Bool.{Bool, not}
 use mathlib.Core.List.{List}
 use Prim.Native.Nat.{ℕ}
 use lib.Dec.{eqb}
-use Rattle.sender.specs.Refusals.{kindOf, numberIn}
 use Rattle.sender.specs.Step.{outcomeOf, lineOf}
-use Rattle.sender.specs.declared.Sender.{Sender}
-use Rattle.sender.specs.declared.Call.{Call}
-use Rattle.sender.specs.declared.Answer.{Answer}
-use Rattle.card.specs.declared.SendAnswer.{SendAnswer}
+use Rattle.control.specs.declared.Sender.{Sender}
+use Rattle.control.specs.declared.Call.{Call}
+use Rattle.answers.specs.Answers.{sendAnswerOf}
+use Rattle.answers.specs.declared.SendAnswer.{SendAnswer}
 use Rattle.card.specs.declared.SendStepped.{SendStepped}
 
 -- a switch: 0 is no, every other number yes
@@ -18,9 +17,6 @@ on switch = not (eqb switch 0)
 
 abbrev pub callOf : ℕ → ℕ → ℕ → ℕ → ℕ → Call
 callOf mute code a e t = record { mute = on mute; code = code; a = on a; e = on e; t = on t }
-
-abbrev pub sendAnswerOf : Answer → SendAnswer
-sendAnswerOf a = record { kind = kindOf a; number = numberIn a }
 
 -- the state and the answer that a call leaves, and what the lent line holds after it
 unfoldable pub sent : Sender → ℕ → ℕ → ℕ → ℕ → ℕ → List ℕ → List ℕ → List ℕ → SendStepped

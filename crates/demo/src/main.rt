@@ -2,11 +2,11 @@
 // mute released. Every block goes into a recording, which is listed at the end as the far end reads it.
 ghost use Prim.Native.Nat.{_+_, _^_, _≤_, _<_};
 ghost use lib.ListN.{length};
+use control::Answer;
+use control::Call;
+use control::Sender;
 use libc::STDOUT_FILENO;
-use sender::Answer;
-use sender::Call;
 use sender::Outcome;
-use sender::Sender;
 
 // How far the lesson is: the state that the next call finds, and how many octets are recorded.
 struct Lesson {
@@ -68,7 +68,7 @@ fn tell_answer(answer: Answer, found: Sender, mute: bool) {
         }
         Answer::Refused(why) => {
             text(b" and is refused, number ");
-            decimal(sender::number_of(why) as u64);
+            decimal(refusals::number_of(why) as u64);
         }
     }
 }
@@ -239,7 +239,7 @@ fn listed(recording: &[u8]) {
 fn main() {
     // Room for the fifteen blocks that fifteen calls write at most.
     let mut recording = [0u8; 2400];
-    let fresh = sender::fresh();
+    let fresh = control::fresh();
     let begun = Lesson {
         state: fresh,
         end: 0,

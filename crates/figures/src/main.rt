@@ -62,7 +62,7 @@ fn crc(at: usize, octet: u8) {
     let mut block = [0u8; 160];
     block[at % 160] = octet;
     text(b"crc ");
-    binary(bits::block_crc(&block));
+    binary(crc::block_crc(&block));
     text(b"\n");
 }
 

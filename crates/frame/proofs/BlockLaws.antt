@@ -16,7 +16,8 @@ use Rattle.modes.specs.declared.Owner.{Owner}
 use Rattle.modes.specs.declared.Owner.the-variants.{Service, Voice, Lsd, Nobody}
 use Rattle.places.specs.Streams.{count, fill}
 use Rattle.service.specs.Service.{serviceRows}
-use Rattle.places.specs.Places.{rows, places, fitting}
+use Rattle.places.specs.Places.{rows, places}
+use Rattle.buffers.specs.Lengths.{fitting}
 use Rattle.frame.specs.Block.{serviceBits, sources, blockOf, lineAfter}
 use Rattle.places.specs.Layout.{layoutOf, rowsBy}
 use Rattle.frame.specs.declared.Header.{Header}

@@ -28,11 +28,6 @@ unfolding number nexts
 ones zero = refl
 ones (suc n) = rw (length-nexts n [], ones n, pow-succ' 2 n, one-mul) (omega (arith, pow-pos n))
 
--- one bit's number is its digit
-pub number-one : (l : List Bool) → number (nexts 1 l) ≡ digit (getD l 0 true)
-unfolding number nexts
-number-one l = rw (add-zero, mul-one)
-
 fill-columns : (p : Layout) (s : Streams) → s Nobody ≡ []
     → fill (columnsBy p) s ≡ nexts (p .width) (s Voice) ++ nexts (7 - (p .width + p .columns)) [] ++ nexts (p .columns) (s Lsd)
 unfolding columnsBy rest same
@@ -126,14 +121,6 @@ octet-parts p o service voice lsd h =
 pub channel-service : (p : Layout) (o : ℕ) → o ≤ 16 → channelBy p o ≡ Service
 unfolding channelBy
 channel-service p o h = rw (le-leb o 16 h)
-
-pub channel-before : (p : Layout) (o : ℕ) → 16 < o → o < p .first → channelBy p o ≡ Nobody
-unfolding channelBy
-channel-before p o h k = rw (lt-leb o 16 h, lt-leb (p .first) o k)
-
-pub channel-past : (p : Layout) (o : ℕ) → 16 < o → p .first ≤ o → p .last < o → channelBy p o ≡ Nobody
-unfolding channelBy
-channel-past p o h k l = rw (lt-leb o 16 h, le-leb (p .first) o k, lt-leb o (p .last) l)
 
 pub channel-lsd : (p : Layout) (o : ℕ) → 16 < o → p .first ≤ o → o ≤ p .last → channelBy p o ≡ Lsd
 unfolding channelBy

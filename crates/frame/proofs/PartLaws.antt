@@ -1,29 +1,33 @@
 -- The octets of a frame in two parts, voice with nobody's ones and data with the SC bit; eight octets of each part as one number.
-use mathlib.Core.Path.{_≡_, ap, sym, _∙_}
+use mathlib.Core.Path.{_≡_, refl, ap, sym, _∙_}
 use mathlib.Core.Logic.{_⊎_, inl, inr}
-use mathlib.Core.Bool.{Bool, true, false, _||_}
+use mathlib.Core.Bool.{Bool, true, false, cond, _&&_}
 use mathlib.Core.List.{List, []}
 use Prim.Native.Nat.{ℕ, _+_, _-_, _*_, _^_, _≤_, _<_}
 use native.Mathlib.Nat.{add-mul, mul-add, mul-assoc, mul-one, zero-mul, zero-add, add-zero}
 use native.Mathlib.Omega.{arith}
-use borrow.Author.Tests.{eqb-true}
-use lib.Dec.{eqb}
+use borrow.Author.Tests.{leb-true, lt-leb}
+use lib.Dec.{leb}
 use lib.Pow.{pow-add, pow-pos}
 use lib.ListN.{length, getD, take, drop, length-drop}
-use lib.Seq.{drop-nil, drop-drop, length-take-le, getD-take, getD-drop, ext-getD}
+use lib.Seq.{take-all, drop-nil, drop-drop, length-take-le, getD-take, getD-drop, ext-getD}
 use Rattle.bits.specs.Bits.{number, digit}
 use Rattle.bits.proofs.BitLaws.{number-append}
 use Rattle.bits.proofs.PackLaws.{length-octets}
 use Rattle.bits.proofs.Table.{entry}
+use Rattle.modes.specs.declared.Owner.the-variants.{Lsd, Nobody}
 use Rattle.places.specs.Streams.{Streams, nexts, fill, rest}
-use Rattle.frame.specs.Block.{heard, streams}
+use Rattle.frame.specs.Block.{streams}
 use Rattle.places.specs.Layout.{channelBy, rowBy, rowsBy, sc, Apart}
 use Rattle.frame.specs.Frame.{frameBy}
-use Rattle.frame.specs.Eight.{eights, fieldsOf, raisedBy, wordAt, headAt, tailAt, octetIn, octetsIn}
+use Rattle.eights.specs.Eight.{eights, ownAt, endedBy, fieldOf, fieldsOf, raisedBy, octetIn, octetsIn, allOctets}
+use Rattle.frame.specs.Parts.{wordAt, headAt, tailAt}
 use Rattle.places.specs.declared.Layout.{Layout}
 use Rattle.places.proofs.StreamLaws.{length-nexts, nexts-append}
-use Rattle.frame.proofs.OctetLaws.{ones, number-one, octet-lt, octet-parts, channel-service, channel-unserved, channel-free, channel-lsd}
-use Rattle.frame.proofs.WordLaws.{eights-plus, eights-each, eights-lt, octet-of}
+use Rattle.frame.proofs.OctetLaws.{ones, octet-lt, octet-parts, channel-service, channel-unserved, channel-free, channel-lsd}
+use Rattle.eights.proofs.EightLaws.{number-one}
+use Rattle.eights.proofs.RunLaws.{all-are}
+use Rattle.eights.proofs.WordLaws.{eights-plus, eights-each, eights-lt, octet-of, raised-none}
 use Rattle.frame.proofs.WrittenLaws.{done, octet-done}
 
 -- ---- the first part: voice and nobody's ones
@@ -39,37 +43,24 @@ all-ones w g =
     one : (x : ℕ) → 1 * x ≡ x
     one x = omega arith
 
--- a head of ones alone
-head-full : (p : Layout) (l : List Bool) (o : ℕ) → p .width + p .columns ≤ 7 → number (nexts (p .width) (drop (o * p .width) l)) ≡ 2 ^ p .width - 1
-    → headAt p l o ≡ (2 ^ (7 - p .columns) - 1) * 2 ^ (p .columns + 1)
+-- muted, a head is ones alone
+head-muted : (p : Layout) (v o : ℕ) → p .width + p .columns ≤ 7 → headAt p (drop v []) o ≡ (2 ^ (7 - p .columns) - 1) * 2 ^ (p .columns + 1)
 unfolding headAt
-head-full p l o h e =
+head-muted p v o h =
     let g : ℕ = 7 - (p .width + p .columns) in
     let all : p .width + g ≡ 7 - p .columns = omega arith in
-    rw (e, all-ones (p .width) g, all)
+    rw (drop-nil v, drop-nil (o * p .width), ones (p .width), all-ones (p .width) g, all)
 
-head-muted : (p : Layout) (v o : ℕ) → p .width + p .columns ≤ 7 → headAt p (drop v []) o ≡ (2 ^ (7 - p .columns) - 1) * 2 ^ (p .columns + 1)
-head-muted p v o h = head-full p (drop v []) o h (rw (drop-nil v, drop-nil (o * p .width)) (ones (p .width)))
-
-head-none : (p : Layout) (l : List Bool) (o : ℕ) → p .width + p .columns ≤ 7 → p .width ≡ 0
-    → headAt p l o ≡ (2 ^ (7 - p .columns) - 1) * 2 ^ (p .columns + 1)
-unfolding nexts number
-head-none p l o h z = head-full p l o h (rw z)
-
-heads-alike : (p : Layout) (l : List Bool) (k : ℕ) → ((o : ℕ) → headAt p l o ≡ (2 ^ (7 - p .columns) - 1) * 2 ^ (p .columns + 1))
-    → eights (λ j. (2 ^ (7 - p .columns) - 1) * 2 ^ (p .columns + 1)) ≡ wordAt (headAt p l) k
+pub heads-muted : (p : Layout) (bits : List Bool) (v k : ℕ) → p .width + p .columns ≤ 7
+    → raisedBy 0 8 ((2 ^ (7 - (0 + p .columns)) - 1) * 2 ^ (p .columns + 1)) bits ≡ wordAt (headAt p (drop v [])) k
 unfolding wordAt
-heads-alike p l k e =
-    eights-each (λ j. (2 ^ (7 - p .columns) - 1) * 2 ^ (p .columns + 1)) (λ j. headAt p l (8 * k + j)) (λ j h. sym (e (8 * k + j)))
-
-pub heads-ones : (p : Layout) (mute : Bool) (bits : List Bool) (v k : ℕ) → p .width + p .columns ≤ 7 → (mute || eqb (p .width) 0) ≡ true
-    → eights (λ j. (2 ^ (7 - p .columns) - 1) * 2 ^ (p .columns + 1)) ≡ wordAt (headAt p (drop v (heard mute bits))) k
-heads-ones p true bits v k h t = heads-alike p (drop v []) k (λ o. head-muted p v o h)
-heads-ones p false bits v k h t = heads-alike p (drop v bits) k (λ o. head-none p (drop v bits) o h (eqb-true (p .width) 0 t))
+heads-muted p bits v k h =
+    let ones : ℕ = (2 ^ (7 - p .columns) - 1) * 2 ^ (p .columns + 1) in
+    rw (zero-add (p .columns)) (sym (raised-none 0 8 ones bits refl)) ∙ eights-each (λ j. ones) (λ j. headAt p (drop v []) (8 * k + j)) (λ j l. sym (head-muted p v (8 * k + j) h))
 
 -- voice from octet i of its buffer on
 pub heads-laid : (p : Layout) (bits : List Bool) (i v k : ℕ) → p .width + p .columns ≤ 7 → 8 * i ≡ v
-    → raisedBy (p .width) (8 - p .width) ((2 ^ (7 - (p .width + p .columns)) - 1) * 2 ^ (p .columns + 1)) (drop (8 * (i + (k - 0) * p .width)) bits)
+    → raisedBy (p .width) (8 - p .width) ((2 ^ (7 - (p .width + p .columns)) - 1) * 2 ^ (p .columns + 1)) (drop (8 * (i + k * p .width)) bits)
     ≡ wordAt (headAt p (drop v bits)) k
 unfolding raisedBy wordAt headAt fieldsOf
 heads-laid p bits i v k h e = eights-each (λ j. fieldsOf w (drop at bits) j * 2 ^ (8 - w) + none) (λ j. headAt p (drop v bits) (8 * k + j)) each
@@ -87,14 +78,12 @@ heads-laid p bits i v k h e = eights-each (λ j. fieldsOf w (drop at bits) j * 2
     none = (2 ^ g - 1) * 2 ^ (c + 1)
 
     at : ℕ
-    at = 8 * (i + (k - 0) * w)
+    at = 8 * (i + k * w)
 
     each : (j : ℕ) → j < 8 → fieldsOf w (drop at bits) j * 2 ^ (8 - w) + none ≡ headAt p (drop v bits) (8 * k + j)
     each j l =
         let up : 8 - w ≡ g + (c + 1) = omega arith in
-        let same : k - 0 ≡ k = omega arith in
-        let whole : at ≡ 8 * (i + k * w) = ap (λ (x : ℕ). 8 * (i + x * w)) same in
-        let from : at + j * w ≡ v + (8 * k + j) * w = rw (add-mul (8 * k) j w, mul-assoc 8 k w) (omega (arith, whole)) in
+        let from : at + j * w ≡ v + (8 * k + j) * w = rw (add-mul (8 * k) j w, mul-assoc 8 k w) (omega arith) in
         let x : ℕ = number (nexts w (drop (v + (8 * k + j) * w) bits)) in
         rw (drop-drop (j * w) at bits, drop-drop ((8 * k + j) * w) v bits, from, up, pow-add 2 g (c + 1), ← mul-assoc x (2 ^ g) (2 ^ (c + 1)), add-mul (x * 2 ^ g) (2 ^ g - 1) (2 ^ (c + 1)))
 
@@ -118,12 +107,19 @@ tail-owned p ds o h f l =
     rw (channel-lsd p (o + 1) (omega arith) f l, nexts-append (p .columns) 1 (drop at ds), number-append (nexts (p .columns) (drop at ds)) (nexts 1 last), length-nexts 1 last, number-one last, drop-drop (p .columns) at ds)
 
 -- data with no columns has the SC bit alone
-pub tail-bit : (p : Layout) (ds : List Bool) (o d : ℕ) → p .columns ≡ 0
-    → digit (getD (streams [] [] (drop (d + sc p o) ds) (channelBy p (o + 1))) 0 true) ≡ tailAt p [] (drop d ds) o
-unfolding tailAt nexts number
-tail-bit p ds o d z =
-    let at : d + (o * 0 + sc p o + 0) ≡ d + sc p o = omega arith in
-    rw (z, drop-drop (o * 0 + sc p o + 0) d ds, at, drop-nil o, zero-mul, zero-add)
+tail-bit : (p : Layout) (bits : List Bool) (o : ℕ) → p .columns ≡ 0 → 16 ≤ o → ownAt (p .first) (p .last) bits o ≡ tailAt p [] bits o
+unfolding ownAt tailAt nexts number channelBy
+tail-bit p bits o z h =
+    rw (z, lt-leb (o + 1) 16 (omega arith), zero-mul, zero-add) (go (leb (p .first) (o + 1)) (leb (o + 1) (p .last)) refl refl)
+  where
+    go : (a b : Bool) → leb (p .first) (o + 1) ≡ a → leb (o + 1) (p .last) ≡ b
+        → digit (cond (a && b) (getD bits (o + 1 - p .first) true) true) ≡ digit (getD (streams (drop o []) [] (drop (o * 0 + sc p o + 0) bits) (cond a (cond b Lsd Nobody) Nobody)) 0 true)
+    go true true ea eb =
+        let at : o * 0 + sc p o + 0 ≡ o + 1 - p .first = omega (arith, leb-true (p .first) (o + 1) ea, leb-true (o + 1) (p .last) eb) in
+        let none : o + 1 - p .first + 0 ≡ o + 1 - p .first = omega arith in
+        rw (at, getD-drop (o + 1 - p .first) bits 0 true, none)
+    go true false ea eb = refl
+    go false b ea eb = refl
 
 -- ---- eights of tails. Where data has columns they are read from bit `at` of its buffer on
 columns-at : (p : Layout) (bits : List Bool) (o j d at : ℕ) → (p .columns ≡ 0) ⊎ (at + j * p .columns ≡ d + (o * p .columns + sc p o))
@@ -181,6 +177,13 @@ eight-owned p bits k d at h f l e =
         let from : at + j * (c + 1) ≡ d + (o * c + sc p o) = rw (mul-add j c 1, mul-one j) (omega (arith, e, in-octet c k j)) in
         rw (tail-owned p (drop d bits) o (omega arith) (omega arith) (omega arith), drop-drop (j * (c + 1)) at bits, from, drop-drop (o * c + sc p o) d bits, mul-one, add-zero)
 
+-- of an eight whose octets go one by one
+pub eight-cut : (p : Layout) (bits : List Bool) (k : ℕ) → p .columns ≡ 0 → 2 ≤ k
+    → eights (λ j. ownAt (p .first) (p .last) bits (8 * k + j)) ≡ wordAt (tailAt p [] bits) k
+unfolding wordAt
+eight-cut p bits k z h =
+    eights-each (λ j. ownAt (p .first) (p .last) bits (8 * k + j)) (λ j. tailAt p [] bits (8 * k + j)) (λ j l. tail-bit p bits (8 * k + j) z (omega arith))
+
 -- ---- the service bits stand in the first two eights, and without them ones
 abbrev columns-only : Layout → List Bool → ℕ → ℕ
 columns-only p ds o = number (nexts (p .columns) (drop (o * p .columns + sc p o) ds)) * 2
@@ -199,12 +202,13 @@ without-service : (k : ℕ) → eights (fieldsOf 1 (drop (8 * k) [])) ≡ eights
 unfolding fieldsOf
 without-service k = eights-each (fieldsOf 1 (drop (8 * k) [])) (λ j. 1) (λ j l. rw (drop-nil (8 * k), drop-nil (j * 1), number-one []))
 
-pub eight-served : (p : Layout) (bs ds : List Bool) (k : ℕ) → k < 2
-    → (eights (λ j. 1) ≤ wordAt (tailAt p [] ds) k) × (wordAt (tailAt p [] ds) k - eights (λ j. 1) + eights (fieldsOf 1 (drop (8 * k) bs)) ≡ wordAt (tailAt p bs ds) k)
-eight-served p bs ds k h =
+pub eight-served : (p : Layout) (bs ds : List Bool) (k octet : ℕ) → k < 2 → eights (fieldOf octet 1) ≡ eights (fieldsOf 1 (drop (8 * k) bs))
+    → (eights (λ j. 1) ≤ wordAt (tailAt p [] ds) k) × (endedBy (wordAt (tailAt p [] ds) k) octet ≡ wordAt (tailAt p bs ds) k)
+unfolding endedBy
+eight-served p bs ds k octet h e =
     let ones : wordAt (columns-only p ds) k + eights (λ j. 1) ≡ wordAt (tailAt p [] ds) k =
     ap (λ (x : ℕ). wordAt (columns-only p ds) k + x) (sym (without-service k)) ∙ with-service p [] ds k h in
-    (omega (arith, ones), omega (arith, ones, with-service p bs ds k h))
+    (omega (arith, ones), omega (arith, ones, e, with-service p bs ds k h))
 
 pub eight-unserved : (p : Layout) (bs ds : List Bool) (k : ℕ) → 2 ≤ k → wordAt (tailAt p [] ds) k ≡ wordAt (tailAt p bs ds) k
 unfolding wordAt tailAt
@@ -228,7 +232,7 @@ pub word-lt : (p : Layout) (s : Streams) (k : ℕ) → p .width + p .columns ≤
 unfolding wordAt
 word-lt p s k h = eights-lt (λ j. octetAt p s (8 * k + j)) (λ j. octet-lt p (8 * k + j + 1) (rest (rowsBy p (8 * k + j)) s) h)
 
-pub word-octets : (p : Layout) (s : Streams) (k : ℕ) → p .width + p .columns ≤ 7 → k < 10
+word-octets : (p : Layout) (s : Streams) (k : ℕ) → p .width + p .columns ≤ 7 → k < 10
     → take 8 (octetsIn (wordAt (octetAt p s) k)) ≡ take 8 (drop (8 * k) (frameBy p s))
 unfolding frameBy wordAt
 word-octets p s k h hk = ext-getD 0 (take 8 es) (take 8 (drop (8 * k) fs)) lengths each
@@ -254,3 +258,11 @@ word-octets p s k h hk = ext-getD 0 (take 8 es) (take 8 (drop (8 * k) fs)) lengt
         ∙ octet-of f small j l
         ∙ sym (octet-done p s 80 (8 * k + j) h (omega arith))
         ∙ sym (getD-take 8 (drop (8 * k) fs) j 0 l ∙ getD-drop (8 * k) fs j 0)
+
+-- a frame is the octets of its ten words
+pub words-are : (p : Layout) (s : Streams) (f : ℕ → ℕ) → p .width + p .columns ≤ 7 → ((k : ℕ) → k < 10 → f k ≡ wordAt (octetAt p s) k)
+    → allOctets f 10 ≡ frameBy p s
+words-are p s f h e =
+    let fs : List ℕ = frameBy p s in
+    let long : length fs ≤ 80 = unfold frameBy in omega (arith, length-octets 80 (fill (rowsBy p 80) s)) in
+    all-are f fs 10 (λ k l. ap octetsIn (e k l) ∙ word-octets p s k h l) ∙ take-all 80 fs long

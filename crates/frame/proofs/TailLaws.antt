@@ -8,16 +8,20 @@ use native.Mathlib.Nat.{add-mul, mul-add, mul-one, mul-le-mul}
 use native.Mathlib.Omega.{arith}
 use borrow.Author.Tests.{leb-true, leb-false}
 use lib.Dec.{leb}
-use lib.ListN.{drop}
-use Rattle.bits.specs.Bits.{lowBits}
+use lib.ListN.{length, drop}
+use lib.Seq.{take-all, take-at, drop-at}
+use Rattle.bits.specs.Bits.{lowBits, number}
+use Rattle.bits.proofs.BitLaws.{length-lowBits, lowBits-append, number-fits, number-lowBits}
+use Rattle.places.specs.Streams.{nexts}
+use Rattle.places.proofs.StreamLaws.{nexts-take}
 use Rattle.frame.specs.Block.{streams}
 use Rattle.places.specs.Layout.{inEights, sc, Apart}
-use Rattle.frame.specs.Eight.{eights, fieldOf, fieldsOf, raisedBy, wordAt, tailAt}
+use Rattle.eights.specs.Eight.{eights, endedBy, fieldOf, fieldsOf, raisedBy}
+use Rattle.frame.specs.Parts.{wordAt, tailAt}
 use Rattle.places.specs.declared.Layout.{Layout}
 use Rattle.places.proofs.LayoutLaws.{eights-at}
-use Rattle.frame.proofs.EightLaws.{service-first, service-second}
-use Rattle.frame.proofs.PartLaws.{eight-free, eight-owned, parts-are, word-lt}
-use Rattle.frame.proofs.WordLaws.{lane-is}
+use Rattle.frame.proofs.PartLaws.{eight-free, eight-owned, eight-served, parts-are, word-lt}
+use Rattle.eights.proofs.WordLaws.{lane-is}
 
 -- ten eights in three runs
 pub by-runs : (f g : ℕ → ℕ) (a b : ℕ) → ((k : ℕ) → k < a → f k ≡ g k) → ((k : ℕ) → a ≤ k → k < b → f k ≡ g k)
@@ -102,12 +106,39 @@ laid-after p bits a b k d ok h ea eb l = laid-free p bits b (d / 8 + b * c + (b 
         let e : p .last ≡ 8 * b = omega (arith, eb, eights-at p (w .0) .1) in
         inr (omega (arith, f, e, w .1, ok .runs, l))
 
--- ---- the service bits as eights of their own, and how large the tails are
-pub served-first : (s : ℕ) → s < 65536 → eights (fieldOf (s / 256) 1) ≡ eights (fieldsOf 1 (drop (8 * 0) (lowBits 16 s)))
-served-first s h = ap (λ (x : ℕ). eights (fieldOf x 1)) (sym (service-first s h)) ∙ lane-is 1 (drop (8 * 0) (lowBits 16 s))
+-- ---- the service bits as two octets
+service-first : (s : ℕ) → s < 65536 → number (nexts 8 (lowBits 16 s)) ≡ s / 256
+service-first s h =
+    let long : 8 ≤ length (lowBits 16 s) = rw (length-lowBits 16 s) (omega arith) in
+    rw (nexts-take 8 (lowBits 16 s) long, lowBits-append 8 8 s, take-at (lowBits 8 (s / 256)) (lowBits 8 s) 8 (length-lowBits 8 (s / 256)))
+    (number-fits 8 (s / 256) (omega arith))
 
-pub served-second : (s : ℕ) → eights (fieldOf (s % 256) 1) ≡ eights (fieldsOf 1 (drop (8 * 1) (lowBits 16 s)))
-served-second s = ap (λ (x : ℕ). eights (fieldOf x 1)) (sym (service-second s)) ∙ lane-is 1 (drop (8 * 1) (lowBits 16 s))
+service-second : (s : ℕ) → number (nexts 8 (drop 8 (lowBits 16 s))) ≡ s % 256
+service-second s =
+    let long : 8 ≤ length (lowBits 8 s) = rw (length-lowBits 8 s) (omega arith) in
+    let short : length (lowBits 8 s) ≤ 8 = rw (length-lowBits 8 s) (omega arith) in
+    rw (lowBits-append 8 8 s, drop-at (lowBits 8 (s / 256)) (lowBits 8 s) 8 (length-lowBits 8 (s / 256)), nexts-take 8 (lowBits 8 s) long, take-all 8 (lowBits 8 s) short)
+    (number-lowBits 8 s)
 
-pub tails-lt : (p : Layout) (bs ds : List Bool) (k : ℕ) → Apart p → wordAt (tailAt p bs ds) k < 2 ^ 64
+-- ---- the service bits in the first two eights, and how large the tails are
+tails-lt : (p : Layout) (bs ds : List Bool) (k : ℕ) → Apart p → wordAt (tailAt p bs ds) k < 2 ^ 64
 tails-lt p bs ds k a = omega (arith, parts-are p bs [] ds k a, word-lt p (streams bs [] ds) k (a .within))
+
+-- what `ended` asks of an eight and an octet, and what it makes of them
+abbrev pub Served : Layout → ℕ → List Bool → ℕ → ℕ → ℕ → Type 0
+Served p s ds k word octet =
+    (eights (λ (j : ℕ). 1) ≤ word) × (endedBy word octet < 2 ^ 64) × (endedBy word octet ≡ wordAt (tailAt p (lowBits 16 s) ds) k)
+
+served : (p : Layout) (s : ℕ) (ds : List Bool) (k word octet : ℕ) → Apart p → k < 2 → octet ≡ number (nexts 8 (drop (8 * k) (lowBits 16 s)))
+    → word ≡ wordAt (tailAt p [] ds) k → Served p s ds k word octet
+served p s ds k word octet a h eo ew =
+    let bs : List Bool = lowBits 16 s in
+    let bits : eights (fieldOf octet 1) ≡ eights (fieldsOf 1 (drop (8 * k) bs)) = ap (λ (x : ℕ). eights (fieldOf x 1)) eo ∙ lane-is 1 (drop (8 * k) bs) in
+    let given = eight-served p bs ds k octet h bits in
+    rw ew (given .0, rw (given .1) (tails-lt p bs ds k a), given .1)
+
+pub served-first : (p : Layout) (s : ℕ) (ds : List Bool) (word : ℕ) → Apart p → s < 65536 → word ≡ wordAt (tailAt p [] ds) 0 → Served p s ds 0 word (s / 256)
+served-first p s ds word a h e = served p s ds 0 word (s / 256) a (omega arith) (sym (service-first s h)) e
+
+pub served-second : (p : Layout) (s : ℕ) (ds : List Bool) (word : ℕ) → Apart p → word ≡ wordAt (tailAt p [] ds) 1 → Served p s ds 1 word (s % 256)
+served-second p s ds word a e = served p s ds 1 word (s % 256) a (omega arith) (sym (service-second s)) e

@@ -1,4 +1,4 @@
--- Octets written one after the other into a slice, and a block as its two halves.
+-- A frame octet by octet, and a block as its two halves.
 use mathlib.Core.Path.{_≡_, refl, ap, sym, _∙_, fun-ext}
 use mathlib.Core.Bool.{Bool, true}
 use mathlib.Core.List.{List, [], _∷_, _++_, append-nil}
@@ -8,8 +8,8 @@ use native.Mathlib.Nat.{add-zero, eq-or-lt-of-le, le-of-suc-le-suc}
 use native.Mathlib.Numerals.{add-one}
 use native.Mathlib.Omega.{arith}
 use borrow.Rule.Slice.PartMut.{putMid}
-use lib.ListN.{length, getD, List·getD-append, take, drop, set, length-set, length-append, drop-of-length-le}
-use lib.Seq.{getD-set-same, getD-set-other, length-take-le, drop-nil, drop-drop, take-add, drop-at, take-at, getD-append-add, paste, paste-suc}
+use lib.ListN.{length, getD, List·getD-append, drop, set, length-set, length-append, drop-of-length-le}
+use lib.Seq.{getD-set-same, getD-set-other, drop-nil, drop-at, take-at, getD-append-add}
 use Rattle.bits.specs.Bits.{number, octets}
 use Rattle.bits.proofs.PackLaws.{length-octets, octets-append, octets-one}
 use Rattle.modes.specs.declared.Owner.{Owner}
@@ -26,7 +26,7 @@ use Rattle.places.proofs.LayoutLaws.{count-service, count-voice, count-lsd, len
 abbrev pub done : Layout → Streams → ℕ → List ℕ
 done p s n = octets n (fill (rowsBy p n) s)
 
-pub done-more : (p : Layout) (s : Streams) (n : ℕ) → p .width + p .columns ≤ 7
+done-more : (p : Layout) (s : Streams) (n : ℕ) → p .width + p .columns ≤ 7
     → done p s (n + 1) ≡ done p s n ++ (number (fill (rowBy p (n + 1)) (rest (rowsBy p n) s)) ∷ [])
 unfolding rowsBy
 done-more p s n h =
@@ -97,37 +97,7 @@ octet-done p s (suc n) o h l =
     (λ i. List·getD-append (done p s n) (x ∷ []) 0 o (rw len i) ∙ octet-done p s n o h i)
     (eq-or-lt-of-le (le-of-suc-le-suc l))
 
--- ---- octets written over others: one more of a run, and a run that follows what was written
-pub one-over : (d : List ℕ) (at : ℕ) (s : List ℕ) (k x : ℕ) → at + k < length d → k < length s → x ≡ getD s k 0
-    → set (paste d at s k) (at + k) x ≡ paste d at s (k + 1)
-one-over d at s k x hd hs e = rw (e, add-one) (paste-suc d at s k 0 hd hs)
-
-run-over : (fs d : List ℕ) (o n : ℕ) → o ≤ length fs → paste (take o fs ++ drop o d) o (drop o fs) n ≡ take (o + n) fs ++ drop (o + n) d
-run-over fs d o n h =
-    let l : length (take o fs) ≡ o = length-take-le o fs h in
-    rw (take-at (take o fs) (drop o d) o l, ← take-add o n fs, ← drop-drop n o (take o fs ++ drop o d), drop-at (take o fs) (drop o d) o l, drop-drop n o d)
-
--- eight octets more of a frame that is written from its first one on
-pub eight-over : (fs d es : List ℕ) (k : ℕ) → 8 * k ≤ length fs → take 8 es ≡ take 8 (drop (8 * k) fs)
-    → paste (take (8 * k) fs ++ drop (8 * k) d) (8 * k) es 8 ≡ take (8 * (k + 1)) fs ++ drop (8 * (k + 1)) d
-eight-over fs d es k h e =
-    let was : List ℕ = take (8 * k) fs ++ drop (8 * k) d in
-    let next : 8 * k + 8 ≡ 8 * (k + 1) = omega arith in
-    ap (λ (l : List ℕ). take (8 * k) was ++ l ++ drop (8 * k + 8) was) e
-    ∙ run-over fs d (8 * k) 8 h
-    ∙ ap (λ (n : ℕ). take n fs ++ drop n d) next
-
--- ---- numbers put into a list by a rule, from one place on: one more
-pub one-laid : (l : List ℕ) (from k x : ℕ) (rule : ℕ → ℕ) → k < length l → x ≡ rule k
-    → ((j : ℕ) → from ≤ j → j < k → getD l j 0 ≡ rule j) → (j : ℕ) → from ≤ j → j < k + 1 → getD (set l k x) j 0 ≡ rule j
-one-laid l from k x rule hk e laid j hf hj =
-    let le : j ≤ k = omega arith in
-    ⊎-elim
-    (λ same. ap (λ (i : ℕ). getD (set l k x) i 0) same ∙ getD-set-same l k x 0 hk ∙ e ∙ ap rule (sym same))
-    (λ less. getD-set-other l k j x 0 (λ same. omega arith) ∙ laid j hf less)
-    (eq-or-lt-of-le le)
-
--- the first two of a list set
+-- ---- the first two of a list set
 pub two-set : (l : List ℕ) (n x y : ℕ) (rule : ℕ → ℕ) → 2 ≤ length l → x ≡ rule 0 → y ≡ rule 1 → ((k : ℕ) → 2 ≤ k → k < n → getD l k 0 ≡ rule k)
     → (k : ℕ) → k < n → getD (set (set l 0 x) 1 y) k 0 ≡ rule k
 two-set l n x y rule h ex ey rest zero hk = getD-set-other (set l 0 x) 1 0 y 0 (λ e. omega arith) ∙ getD-set-same l 0 x 0 (omega arith) ∙ ex

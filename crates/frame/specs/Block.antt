@@ -9,7 +9,8 @@ use Rattle.modes.specs.Numbers.{evenFrame, oddFrame}
 use Rattle.modes.specs.declared.Mode.{Mode}
 use Rattle.modes.specs.declared.Owner.the-variants.{Service, Voice, Lsd, Nobody}
 use Rattle.service.specs.Service.{serviceRows}
-use Rattle.places.specs.Places.{places, fitting}
+use Rattle.places.specs.Places.{places}
+use Rattle.buffers.specs.Lengths.{fitting}
 use Rattle.places.specs.Streams.{Streams, fill}
 use Rattle.frame.specs.declared.Header.{Header}
 

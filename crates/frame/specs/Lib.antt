@@ -1,3 +1,3 @@
 pub mod Block
 pub mod Frame
-pub mod Eight
+pub mod Parts

@@ -5,10 +5,10 @@ use libc::STDIN_FILENO;
 use libc::STDOUT_FILENO;
 use modes::Mode;
 use modes::Owner;
-use reader::Standing;
 use recording::Answer;
 use recording::Stepped;
 use search::Found;
+use track::Standing;
 
 fn tell(s: &[u8]) {
     io::write_all(STDERR_FILENO, s);
@@ -62,7 +62,7 @@ fn write_voice(mode: Mode, voice: &[u8]) -> bool {
 fn walked(recording: &[u8], start: usize) -> bool {
     let mut stepped = Stepped {
         answer: Answer::Place(start),
-        reader: reader::fresh(),
+        reader: track::fresh(),
         place: start,
         lost: false,
     };

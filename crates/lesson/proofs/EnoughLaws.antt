@@ -6,26 +6,27 @@ use Prim.Native.Nat.{ℕ, _<_}
 use native.Mathlib.Omega.{arith}
 use lib.ListN.{replicate}
 use Rattle.bits.specs.Bits.{odd, xors}
-use Rattle.bits.specs.Crc.{blockCrcOf}
+use Rattle.crc.specs.Crc.{blockCrcOf}
 use Rattle.bas.specs.Reading.{weight, readingOf}
 use Rattle.bas.specs.declared.Word.the-variants.{Code}
-use Rattle.modes.specs.Codes.{audioOff}
+use Rattle.modes.specs.Numbers.{following}
 use Rattle.modes.specs.Table.{audioTable, lsdTable, beside, audioPlaces, lsdPlaces}
 use Rattle.modes.specs.Owners.{holds, heldBy, some, clash, overlaps}
-use Rattle.modes.specs.Numbers.{following}
-use Rattle.modes.specs.Carried.{carried, senderCarries, openingOf}
-use Rattle.modes.specs.Commands.{mode, inRange, commandOf, offered}
+use Rattle.modes.specs.Modes.{audioOff, mode, inRange}
+use Rattle.codes.specs.Carried.{carried, senderCarries, openingOf}
+use Rattle.codes.specs.Commands.{commandOf, offered}
 use Rattle.service.specs.Channel.{channelBits, alignmentBits, wrongBits, basWord}
 use Rattle.round.proofs.HeaderLaws.{right-alignment, code-back}
-use Rattle.sender.specs.State.{stateInRange, freshWith}
-use Rattle.sender.specs.Rules.{ruleOf}
-use Rattle.sender.specs.Plans.{planBy}
-use Rattle.sender.specs.Refusals.{clashes, verdictOf}
+use Rattle.control.specs.State.{stateInRange, freshWith}
+use Rattle.control.specs.Rules.{ruleOf}
+use Rattle.control.specs.Plans.{planBy}
+use Rattle.control.specs.Refusals.{clashes, rulingOf}
+use Rattle.control.specs.Decisions.{decisionOf}
 use Rattle.sender.specs.Step.{blockFor, outcomeOf}
-use Rattle.sender.specs.declared.Sender.{Sender}
+use Rattle.control.specs.declared.Sender.{Sender}
 use Rattle.sender.specs.declared.Outcome.{Outcome}
-use Rattle.sender.specs.declared.Answer.the-variants.{Sent}
-use Rattle.sender.proofs.RangeLaws.{stays-in-range}
+use Rattle.control.specs.declared.Answer.the-variants.{Sent}
+use Rattle.sender.proofs.OutcomeLaws.{stays-in-range}
 use Rattle.lesson.specs.Session.{Turn, turned, after, accepted, entryOf}
 use Rattle.lesson.specs.Demand2.{LaidDown}
 use Rattle.lesson.specs.NotEnough.{Program, Meets, Accepts, RefusesEverything, SendsOneBlock, WritesNothing, Repeats, NoneIsEnough, NoPlaceMadeUp}
@@ -51,11 +52,11 @@ unfolding stateInRange inRange audioPlaces audioTable lsdPlaces lsdTable beside 
 fresh-range = refl
 
 first-sent : (turned fresh (offer 0x80)) .outcome .answer ≡ Sent
-unfolding turned outcomeOf verdictOf ruleOf planBy senderCarries carried clashes
+unfolding turned outcomeOf decisionOf rulingOf ruleOf planBy senderCarries carried clashes
 first-sent = rw fresh-range
 
 other-sent : (turned fresh (offer 0x81)) .outcome .answer ≡ Sent
-unfolding turned outcomeOf verdictOf ruleOf planBy senderCarries carried clashes
+unfolding turned outcomeOf decisionOf rulingOf ruleOf planBy senderCarries carried clashes
 other-sent = rw fresh-range
 
 -- the state after the first
@@ -70,7 +71,7 @@ second =
     }
 
 second-found : after fresh (offer 0x80) ≡ second
-unfolding second turned outcomeOf verdictOf ruleOf planBy senderCarries carried clashes following commandOf offered openingOf
+unfolding second turned outcomeOf decisionOf rulingOf ruleOf planBy senderCarries carried clashes following commandOf offered openingOf
 second-found = rw (fresh-range, after)
 
 second-range : stateInRange second ≡ true
@@ -80,7 +81,7 @@ second-range =
     (stays-in-range fresh ((offer 0x80) .call) (replicate 140 0) (replicate 156 0) (replicate 160 0) fresh-range)
 
 second-sent : (turned second (offer 0x81)) .outcome .answer ≡ Sent
-unfolding second turned outcomeOf verdictOf ruleOf planBy senderCarries carried clashes
+unfolding second turned outcomeOf decisionOf rulingOf ruleOf planBy senderCarries carried clashes
 second-sent = rw second-range
 
 -- ---- what an accepted call's block says

@@ -9,24 +9,21 @@ use lib.Dec.{eqb}
 use lib.ListN.{replicate}
 use denote.Ref.{now}
 use Rattle.text.proofs.OverLaws.{written-fits, written-cut}
+use Rattle.refusals.proofs.RowLaws.{number-within, numbered}
 use Rattle.search.specs.Finding as finding
 use Rattle.search.specs.Finding.{searchOf}
 use Rattle.search.specs.declared.Found.{Found}
-use Rattle.search.specs.declared.Refusal as unfound
-use Rattle.sender.specs.Refusals as sender-list
-use Rattle.sender.specs.declared.Sender.{Sender}
-use Rattle.sender.specs.declared.Rule.{Rule}
-use Rattle.sender.specs.declared.Answer as sent
-use Rattle.sender.specs.declared.Refusal as unsent
+use Rattle.control.specs.Refusals as sender-list
+use Rattle.control.specs.declared.Sender.{Sender}
+use Rattle.control.specs.declared.Rule.{Rule}
+use Rattle.control.specs.declared.Answer as sent
 use Rattle.reader.specs.Refusals as reader-list
 use Rattle.reader.specs.Step as reading
 use Rattle.reader.specs.declared.Answer as read
-use Rattle.reader.specs.declared.Refusal as unread
 use Rattle.reader.proofs.OutcomeLaws.{told, look-read}
 use Rattle.recording.specs.Refusals as walk-list
 use Rattle.recording.specs.Walk.{stepAt}
 use Rattle.recording.specs.declared.Answer as walked
-use Rattle.recording.specs.declared.Refusal as unwalked
 use Rattle.recording.proofs.StepLaws.{look-step}
 use Rattle.walk.specs.declared.Walk.{Walk}
 use Rattle.walk.specs.declared.Onward.{Onward}
@@ -35,15 +32,15 @@ use Rattle.lines.proofs.ListingLaws.{listing-ends}
 use Rattle.card.specs.Sending.{on}
 use Rattle.card.specs.Sending as card-sends
 use Rattle.card.specs.Walking.{markAfter}
-use Rattle.card.specs.declared.SendAnswer.{SendAnswer}
+use Rattle.answers.specs.declared.SendAnswer.{SendAnswer}
 use Rattle.card.specs.declared.ReadOutcome.{ReadOutcome}
-use Rattle.card.specs.declared.SearchAnswer.{SearchAnswer}
+use Rattle.answers.specs.declared.SearchAnswer.{SearchAnswer}
 use Rattle.card.specs.declared.StepOutcome.{StepOutcome}
 use Rattle.card.specs.declared.PresetOutcome.{PresetOutcome}
 use Rattle.card.specs.declared.PresetBits.{PresetBits}
 use Rattle.card.proofs.ReadLaws.{mark-still}
 use Rattle.lesson.specs.Session.{Turn, turned}
-use Rattle.lesson.specs.Demand1.{Row, smallest, Refuses, held, searchingRows}
+use Rattle.lesson.specs.Demand1.{Row, first, Refuses, held, searchingRows}
 use Rattle.lesson.specs.EntryPoints.{Looking, WalkLooking, StepOfWalk, LookOfWalk, callInC, SendingInC, ReadingInC, SearchingInC, SteppingInC, ReadingPresetInC, WritingPresetInC, Listing}
 use Rattle.lesson.proofs.TurnLaws.{Stayed, Went, turn-cases}
 use Rattle.lesson.proofs.RefusalLaws.{sending-refuses, reading-refuses, searching-refuses, stepping-refuses, reading-preset-refuses, writing-preset-refuses}
@@ -90,40 +87,17 @@ look-of-walk w s r e =
 kind-sent : (a : sent.Answer) → eqb (sender-list.kindOf a) 2 ≡ not (eqb (sender-list.numberIn a) 0)
 kind-sent sent.the-variants.Sent = refl
 kind-sent sent.the-variants.Held = refl
-kind-sent (sent.the-variants.Refused r) = go r
-  where
-    go : (r : unsent.Refusal) → true ≡ not (eqb (sender-list.numberOf r) 0)
-    go unsent.the-variants.BadState = refl
-    go unsent.the-variants.LineLength = refl
-    go unsent.the-variants.VoiceLength = refl
-    go unsent.the-variants.DataLength = refl
-    go unsent.the-variants.NotCarried = refl
-    go unsent.the-variants.ForbiddenItem = refl
-    go unsent.the-variants.AudioWhileMuted = refl
-    go unsent.the-variants.Overlap = refl
-    go unsent.the-variants.NotAPreset = refl
+kind-sent (sent.the-variants.Refused r) = rw (numbered r)
 
 kind-read : (a : read.Answer) → eqb (reader-list.kindOf a) 1 ≡ not (eqb (reader-list.numberIn a) 0)
 kind-read (read.the-variants.Block report) = refl
-kind-read (read.the-variants.Refused r) = go r
-  where
-    go : (r : unread.Refusal) → true ≡ not (eqb (reader-list.numberOf r) 0)
-    go unread.the-variants.BadState = refl
-    go unread.the-variants.LineLength = refl
-    go unread.the-variants.VoiceLength = refl
-    go unread.the-variants.DataLength = refl
+kind-read (read.the-variants.Refused r) = rw (numbered r)
 
 kind-walked : (a : walked.Answer) → eqb (walk-list.kindOf a) 3 ≡ not (eqb (walk-list.numberIn a) 0)
 kind-walked (walked.the-variants.Block report) = refl
 kind-walked (walked.the-variants.Place p) = refl
 kind-walked (walked.the-variants.End left) = refl
-kind-walked (walked.the-variants.Refused r) = go r
-  where
-    go : (r : unwalked.Refusal) → true ≡ not (eqb (walk-list.numberOf r) 0)
-    go unwalked.the-variants.BadState = refl
-    go unwalked.the-variants.VoiceLength = refl
-    go unwalked.the-variants.DataLength = refl
-    go unwalked.the-variants.PastTheEnd = refl
+kind-walked (walked.the-variants.Refused r) = rw (numbered r)
 
 tells-as : {k n m : ℕ} (kind refused : ℕ) → kind ≡ k → n ≡ m → eqb k refused ≡ not (eqb m 0) → eqb kind refused ≡ not (eqb n 0)
 tells-as kind refused e f h = rw (e, f) h
@@ -170,8 +144,7 @@ reading-in-C s line voice lsd r v d (er, ev, ed) =
 -- an answer without a number is the place
 place-told : (f : Found) → finding.foundNumber f ≡ 0 → f ≡ Found.Place (finding.foundPlace f)
 place-told (Found.Place p) e = refl
-place-told (Found.Refused unfound.the-variants.RecordingLength) e = absurd (omega arith)
-place-told (Found.Refused unfound.the-variants.NoPlace) e = absurd (omega arith)
+place-told (Found.Refused why) e = absurd (omega (arith, number-within why .0))
 
 pub searching-in-C : SearchingInC
 searching-in-C recording start r e =
@@ -206,20 +179,20 @@ writing-preset-in-C s r e = refuses-as (writing-preset-refuses s _ refl) (ap (λ
 -- ---- the listings
 -- by what the search answers
 module _ (recording : List ℕ) where
-  abbrev first : ℕ
-  first = smallest (searchingRows recording 0)
+  abbrev why-none : ℕ
+  why-none = first (searchingRows recording 0)
 
-  none-listed : (first ≡ 0 → ⊥) → listingOf recording ≡ numberLine "none " first
+  none-listed : (why-none ≡ 0 → ⊥) → listingOf recording ≡ numberLine "none " why-none
   unfolding listingOf
   none-listed some = go (searchOf recording 0) refl
     where
-      go : (f : Found) → searchOf recording 0 ≡ f → listingBy (searchOf recording 0) recording ≡ numberLine "none " first
+      go : (f : Found) → searchOf recording 0 ≡ f → listingBy (searchOf recording 0) recording ≡ numberLine "none " why-none
       go (Found.Place p) e = absurd (some (sym ((searching-refuses recording 0 _ refl) .exact) ∙ ap finding.foundNumber e))
       go (Found.Refused why) e =
           ap (λ (f : Found). listingBy f recording) e
           ∙ ap (numberLine "none ") (sym (ap finding.foundNumber e) ∙ (searching-refuses recording 0 _ refl) .exact)
 
-  place-found : first ≡ 0 → searchOf recording 0 ≡ Found.Place (finding.foundPlace (searchOf recording 0))
+  place-found : why-none ≡ 0 → searchOf recording 0 ≡ Found.Place (finding.foundPlace (searchOf recording 0))
   place-found none = place-told (searchOf recording 0) ((searching-refuses recording 0 _ refl) .exact ∙ none)
 
   found-listed : (p : ℕ) → searchOf recording 0 ≡ Found.Place p → (rest : List ℕ) × (listingOf recording ≡ numberLine "found " p ++ rest)

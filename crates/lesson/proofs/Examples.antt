@@ -6,25 +6,27 @@ use mathlib.Core.Logic.{_⊎_, inl, inr}
 use Prim.Native.Nat.{ℕ}
 use native.Mathlib.Omega.{arith}
 use lib.ListN.{getD, replicate}
-use Rattle.bits.specs.Crc.{blockCrcOf}
+use Rattle.crc.specs.Crc.{blockCrcOf}
 use Rattle.bits.specs.Bits.{number}
-use Rattle.modes.specs.Codes.{neutral, audioOff}
+use Rattle.modes.specs.Numbers.{following}
 use Rattle.modes.specs.Table.{audioTable, lsdTable, beside, audioPlaces, lsdPlaces}
 use Rattle.modes.specs.Owners.{holds, heldBy, some, clash, overlaps}
-use Rattle.modes.specs.Numbers.{following}
-use Rattle.modes.specs.Carried.{carried, senderCarries}
-use Rattle.modes.specs.Commands.{mode, inRange}
-use Rattle.sender.specs.State.{sounding, stateInRange, freshWith}
-use Rattle.sender.specs.Rules.{ruleOf}
-use Rattle.sender.specs.Plans.{planBy}
-use Rattle.sender.specs.Refusals.{clashes, verdictOf}
+use Rattle.modes.specs.Modes.{audioOff, mode, inRange}
+use Rattle.codes.specs.Codes.{neutral}
+use Rattle.codes.specs.Carried.{carried, senderCarries}
+use Rattle.control.specs.State.{sounding, stateInRange, freshWith}
+use Rattle.control.specs.Rules.{ruleOf}
+use Rattle.control.specs.Plans.{planBy}
+use Rattle.control.specs.Refusals.{clashes, rulingOf}
+use Rattle.control.specs.Decisions.{decisionOf}
 use Rattle.sender.specs.Step.{blockFor, outcomeOf}
-use Rattle.sender.specs.declared.Sender.{Sender}
-use Rattle.sender.specs.declared.Answer.the-variants.{Sent, Held}
-use Rattle.sender.proofs.RangeLaws.{stays-in-range}
+use Rattle.control.specs.declared.Sender.{Sender}
+use Rattle.control.specs.declared.Answer.the-variants.{Sent, Held}
+use Rattle.sender.proofs.OutcomeLaws.{stays-in-range}
 use Rattle.slots.specs.declared.Due.the-variants.{Plain}
-use Rattle.reader.specs.State.{slotOf, stateInRange as readerInRange}
-use Rattle.reader.specs.declared.Reader.{Reader}
+use Rattle.slots.specs.Slots.{slotOf}
+use Rattle.track.specs.State.{stateInRange as readerInRange}
+use Rattle.track.specs.declared.Reader.{Reader}
 use Rattle.lesson.specs.Demand2.{wordOf, InStep, Agrees, EightBits}
 use Rattle.lesson.specs.Session.{Turn, turned, after, run, log}
 use Rattle.lesson.specs.Demand3.{silent, AlikeTurn, Alike, MuteStaysSet, MuteGone, By}
@@ -77,12 +79,12 @@ unfolding stateInRange inRange audioPlaces audioTable lsdPlaces lsdTable beside 
 range-example due = refl
 
 held-example : (turned (talking 0) (turn true 0)) .outcome .answer ≡ Held
-unfolding turned outcomeOf verdictOf ruleOf planBy
+unfolding turned outcomeOf decisionOf rulingOf ruleOf planBy
 held-example = rw (range-example 0)
 
 -- where an item is due it goes first, and mute's own "off" in the second call
 item-sent : (turned (talking 1) (turn true 0)) .outcome .answer ≡ Sent
-unfolding turned outcomeOf verdictOf ruleOf planBy
+unfolding turned outcomeOf decisionOf rulingOf ruleOf planBy
 item-sent = rw (range-example 1)
 
 second : Sender
@@ -96,7 +98,7 @@ second =
     }
 
 second-found : after (talking 1) (turn true 0) ≡ second
-unfolding second turned outcomeOf verdictOf ruleOf planBy following
+unfolding second turned outcomeOf decisionOf rulingOf ruleOf planBy following
 second-found = rw (range-example 1, after)
 
 second-range : stateInRange second ≡ true
@@ -106,7 +108,7 @@ second-range =
     (stays-in-range (talking 1) ((turn true 0) .call) (replicate 140 0) (replicate 156 0) (replicate 160 0) (range-example 1))
 
 second-held : (turned second (turn true 0)) .outcome .answer ≡ Held
-unfolding second turned outcomeOf verdictOf ruleOf planBy
+unfolding second turned outcomeOf decisionOf rulingOf ruleOf planBy
 second-held = rw second-range
 
 second-example : log (talking 1) (muted 0)
@@ -118,7 +120,10 @@ least-example : By 1 MuteGone (log (talking 1) (muted 0)) → ⊥
 least-example b = go (rw second-example at b)
   where
     go : MuteGone (record { found = talking 1; turn = turn true 0 }) ⊎ ⊥ → ⊥
-    go (inl g) = false≢true (sym (g .command))
+    go (inl g) =
+        let e = g .command in
+        let z : _≡_ {A = ℕ} 0 1 = cc in
+        omega arith
     go (inr n) = n
 
 -- ---- demand 2: a sender about to send block 7, and a reader in step with it
@@ -165,7 +170,7 @@ unfolding stateInRange inRange audioPlaces audioTable lsdPlaces lsdTable beside 
 seventh-range = refl
 
 neutral-sent : (turned seventh neutral-turn) .outcome .answer ≡ Sent
-unfolding turned outcomeOf verdictOf ruleOf planBy senderCarries carried clashes audioPlaces audioTable lsdPlaces lsdTable beside overlaps clash some holds heldBy
+unfolding turned outcomeOf decisionOf rulingOf ruleOf planBy senderCarries carried clashes audioPlaces audioTable lsdPlaces lsdTable beside overlaps clash some holds heldBy
 neutral-sent = rw seventh-range
 
 neutral-example : wordOf (record { found = seventh; turn = neutral-turn }) ≡ neutral

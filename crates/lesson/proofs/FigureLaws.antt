@@ -3,19 +3,20 @@ use mathlib.Core.Path.{refl}
 use mathlib.Core.Bool.{xor}
 use Rattle.bits.specs.Bits.{odd, lowBits, bitsOf, number, xors}
 use Rattle.bits.specs.Remainder.{scaled, fed, continued, remainder}
-use Rattle.bits.specs.Crc.{crc4Of, summed, summedFrom, blockCrcOf}
+use Rattle.crc.specs.Crc.{crc4Of, summed, summedFrom, blockCrcOf}
 use Rattle.bas.specs.Words.{checkOf, wordBits, evenOrder, oddOrder, lineOrder}
 use Rattle.modes.specs.Table.{audioTable, lsdTable, beside, audioPlaces, lsdPlaces}
 use Rattle.modes.specs.Owners.{holds, heldBy, some, clash, overlaps}
-use Rattle.modes.specs.Carried.{carried, senderCarries}
-use Rattle.modes.specs.Commands.{inRange}
-use Rattle.sender.specs.State.{stateInRange}
-use Rattle.sender.specs.Rules.{ruleOf}
-use Rattle.sender.specs.Plans.{planBy}
-use Rattle.sender.specs.Refusals.{clashes, verdictOf}
+use Rattle.modes.specs.Modes.{inRange}
+use Rattle.codes.specs.Carried.{carried, senderCarries}
+use Rattle.control.specs.State.{stateInRange}
+use Rattle.control.specs.Rules.{ruleOf}
+use Rattle.control.specs.Plans.{planBy}
+use Rattle.control.specs.Refusals.{clashes, rulingOf}
+use Rattle.control.specs.Decisions.{decisionOf}
 use Rattle.sender.specs.Step.{outcomeOf}
 use Rattle.lesson.specs.Figures.{figures, AllAsSaid}
 
 pub figures-hold : AllAsSaid
-unfolding figures checkOf remainder continued fed scaled xors xor odd lowBits number wordBits evenOrder oddOrder lineOrder blockCrcOf summedFrom summed crc4Of bitsOf audioTable lsdTable beside audioPlaces lsdPlaces holds heldBy some clash overlaps carried senderCarries inRange stateInRange ruleOf planBy clashes verdictOf outcomeOf
+unfolding figures checkOf remainder continued fed scaled xors xor odd lowBits number wordBits evenOrder oddOrder lineOrder blockCrcOf summedFrom summed crc4Of bitsOf audioTable lsdTable beside audioPlaces lsdPlaces holds heldBy some clash overlaps carried senderCarries inRange stateInRange ruleOf planBy clashes rulingOf decisionOf outcomeOf
 figures-hold = refl

@@ -6,18 +6,19 @@ use mathlib.Core.Logic.{_⊎_, inl, inr}
 use Prim.Native.Nat.{ℕ, zero, suc}
 use native.Mathlib.Omega.{arith}
 use Rattle.bas.specs.declared.Word.the-variants.{Code}
-use Rattle.modes.specs.Codes.{audioOff}
 use Rattle.modes.specs.Table.{audioTable, beside, audioPlaces}
-use Rattle.modes.specs.Carried.{carried, readerCarries}
-use Rattle.modes.specs.Commands.{commandOf, offered}
+use Rattle.modes.specs.Modes.{audioOff}
 use Rattle.modes.specs.declared.Mode.{Mode}
+use Rattle.codes.specs.Carried.{carried, readerCarries}
+use Rattle.codes.specs.Commands.{commandOf, offered}
 use Rattle.slots.specs.Readings.{readingIn}
-use Rattle.slots.specs.declared.Due.the-variants.{Plain, AnItem}
+use Rattle.slots.specs.declared.Due.{Due}
+use Rattle.slots.specs.declared.Due.the-variants.{Plain}
 use Rattle.slots.specs.declared.Reading.the-variants.{Mended}
-use Rattle.sender.specs.declared.Rule.{Rule}
-use Rattle.reader.specs.declared.Reader.{Reader}
+use Rattle.control.specs.declared.Rule.{Rule}
+use Rattle.track.specs.declared.Reader.{Reader}
 use Rattle.lesson.specs.Session.{after, Entry, log}
-use Rattle.lesson.specs.Demand2.{wordOf, readerAfter, Back, AllBack}
+use Rattle.lesson.specs.Demand2.{wordOf, commanded, readerAfter, Back, AllBack}
 use Rattle.lesson.specs.Demand3.{MuteGone, By, MuteHeard, HeardBy, MuteIsHeard}
 use Rattle.lesson.proofs.TurnLaws.{Stayed, Went, turn-cases}
 use Rattle.lesson.proofs.InStepLaws.{goes-on, stays-in-step}
@@ -43,14 +44,14 @@ force-off e g = go (turn-cases (e .found) (e .turn))
     go (inl k) = let both = sym (g .held) ∙ k .answer in let z : _≡_ {A = ℕ} 0 1 = cc in absurd (omega arith)
     go (inr (rule, w)) =
         ap (λ (m : Mode). m .audio) ((goes-on (e .found) (e .turn) rule w) .mode)
-        ∙ ap₂ (λ (t : Bool) (n : ℕ). (cond t (e .found .mode) (offered (commandOf n) (e .found .mode))) .audio) (g .command) (word-off e g)
+        ∙ ap₂ (λ (d : Due) (n : ℕ). (commanded d n (e .found .mode)) .audio) (g .command) (word-off e g)
         ∙ off-offered (e .found .mode)
 
 heard : (e : Entry) (r : Reader) → MuteGone e → Back e r → MuteHeard e r
 heard e r g b =
     record {
       gone = g;
-      read = λ o v d h. h .word ∙ ap₂ (λ (t : Bool) (n : ℕ). readingIn (cond t AnItem Plain) (Code n)) (g .command) (word-off e g) ∙ off-mended;
+      read = λ o v d h. h .word ∙ ap₂ (λ (d : Due) (n : ℕ). readingIn d (Code n)) (g .command) (word-off e g) ∙ off-mended;
       closed = ap (λ (m : Mode). m .audio) (b .step .mode) ∙ force-off e g;
     }
 

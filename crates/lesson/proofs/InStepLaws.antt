@@ -9,22 +9,22 @@ use lib.Dec.{eqb, leb}
 use lib.ListN.{length, take, replicate}
 use borrow.Author.Tests.{eqb-true, eq-eqb, ne-eqb, leb-true}
 use Rattle.bits.specs.Bits.{bitsOf, number, octets}
-use Rattle.bits.specs.Crc.{blockCrcOf}
+use Rattle.crc.specs.Crc.{blockCrcOf}
 use Rattle.bits.proofs.Every.{and-left, and-right}
 use Rattle.bits.proofs.PackLaws.{length-octets}
 use Rattle.bas.specs.Reading.{readingOf}
 use Rattle.bas.specs.declared.Word.the-variants.{Code}
 use Rattle.bas.proofs.ReadingLaws.{two-wrong, three-wrong}
 use Rattle.modes.specs.Numbers.{following}
-use Rattle.modes.specs.Codes.{neutral}
 use Rattle.modes.specs.Table.{audioTable, beside, audioPlaces}
-use Rattle.modes.specs.Carried.{carried, readerCarries, openingOf}
-use Rattle.modes.specs.Commands.{commandOf, offered, followed}
 use Rattle.modes.specs.declared.BlockNumber.{BlockNumber}
 use Rattle.modes.specs.declared.Mode.{Mode}
 use Rattle.modes.specs.declared.Owner.the-variants.{Voice, Lsd}
 use Rattle.modes.proofs.ModeLaws.{following-low}
-use Rattle.slots.specs.Slots.{standing, dueAfterStanding, dueAfter}
+use Rattle.codes.specs.Codes.{neutral}
+use Rattle.codes.specs.Carried.{carried, readerCarries}
+use Rattle.codes.specs.Commands.{commandOf, offered, followed}
+use Rattle.slots.specs.Slots.{standing, dueAfterStanding, dueAfter, dueOf}
 use Rattle.slots.specs.Readings.{codeReading, readingIn, obeyed}
 use Rattle.slots.specs.declared.Due.{Due}
 use Rattle.slots.specs.declared.Due.the-variants.{Plain, AnItem}
@@ -33,36 +33,39 @@ use Rattle.frame.specs.Block.{blockOf}
 use Rattle.service.specs.Channel.{wrongBits, oddFirst, cBits, basWord}
 use Rattle.frame.specs.declared.Header.{Header}
 use Rattle.round.proofs.HeaderLaws.{each8, oddBit, right-alignment, first-bit-back, remainder-back, code-back}
-use Rattle.sender.specs.State.{itemDue}
-use Rattle.sender.specs.Plans.{dueNumber, planBy}
-use Rattle.sender.specs.Refusals.{goesAsItem}
+use Rattle.control.specs.State.{itemDue, wordDue}
+use Rattle.control.specs.Plans.{planBy}
+use Rattle.control.specs.Rules.{ruleOf}
+use Rattle.control.specs.Refusals.{goesPlain, goesAsItem}
 use Rattle.sender.specs.Step.{headerFor, blockFor}
-use Rattle.sender.specs.declared.Sender.{Sender}
-use Rattle.sender.specs.declared.Plan.{Plan}
-use Rattle.sender.specs.declared.Rule.{Rule}
-use Rattle.sender.specs.declared.Answer.{Answer}
-use Rattle.sender.proofs.RangeLaws as sending
-use Rattle.reader.specs.State.{block, known, dueOf}
-use Rattle.reader.specs.Signs.{signsOf}
-use Rattle.reader.specs.Parts as parts
-use Rattle.reader.specs.Parts.{placeAfter}
-use Rattle.reader.specs.Step.{reportOf, nextOf, stepOf, voiceBy, lsdBy, Told}
-use Rattle.reader.specs.declared.Reader.{Reader}
-use Rattle.reader.specs.declared.Signs.{Signs}
-use Rattle.reader.specs.declared.Place.{Place}
+use Rattle.control.specs.declared.Sender.{Sender}
+use Rattle.control.specs.declared.Plan.{Plan}
+use Rattle.control.specs.declared.Rule.{Rule}
+use Rattle.control.specs.declared.Answer.{Answer}
+use Rattle.control.proofs.RangeLaws as sending
+use Rattle.track.specs.State.{block, known}
+use Rattle.track.specs.Signs.{signsOf}
+use Rattle.track.specs.Parts as parts
+use Rattle.track.specs.Parts.{multiframeAfter}
+use Rattle.track.specs.Step.{reportOf, nextOf, stepOf}
+use Rattle.reader.specs.Step.{voiceBy, lsdBy, Told}
+use Rattle.track.specs.declared.Reader.{Reader}
+use Rattle.track.specs.declared.Signs.{Signs}
+use Rattle.track.specs.declared.Multiframe.{Multiframe}
 use Rattle.reader.specs.declared.Outcome.{Outcome}
-use Rattle.reader.specs.declared.Stepped.{Stepped}
-use Rattle.reader.specs.declared.Report.{Report}
-use Rattle.reader.specs.declared.Standing.{Standing}
-use Rattle.reader.specs.declared.Standing.the-variants.{Read}
+use Rattle.track.specs.declared.Stepped.{Stepped}
+use Rattle.track.specs.declared.Report.{Report}
+use Rattle.track.specs.declared.Standing.{Standing}
+use Rattle.track.specs.declared.Standing.the-variants.{Read}
 use Rattle.reader.specs.declared.Answer.the-variants.{Block}
 use Rattle.reader.proofs.OutcomeLaws.{takes, told-taken}
-use Rattle.reader.proofs.RangeLaws.{due-back, step-in-range}
+use Rattle.slots.proofs.SlotLaws.{due-back}
+use Rattle.track.proofs.RangeLaws.{step-in-range}
 use Rattle.sorter.specs.Sorting.{sortedOf}
 use Rattle.places.proofs.CountLaws.{voice-twice, lsd-twice}
 use Rattle.round.proofs.RoundLaws.{voice-bits-back, lsd-back}
 use Rattle.lesson.specs.Session.{Turn, after, Entry, log, blockSent, entryOf}
-use Rattle.lesson.specs.Demand2.{wordTold, wordOf, Answered, LaidDown, GoesOn, BlockAfterBlock, OctetsLaidDown, wordDue, lastSix, KeptAsSent, Placed, InStep, Agrees, readerAfter, HandedBack, Back, AllBack, StaysInStep, MendsWords, JoinsAtNeutral}
+use Rattle.lesson.specs.Demand2.{wordTold, wordOf, Answered, LaidDown, commanded, GoesOn, BlockAfterBlock, OctetsLaidDown, lastSix, KeptAsSent, Placed, InStep, Agrees, readerAfter, HandedBack, Back, AllBack, StaysInStep, MendsWords, JoinsAtNeutral}
 use Rattle.lesson.proofs.TurnLaws.{Stayed, Went, turn-cases, log-stayed, log-went}
 use Rattle.lesson.proofs.RuleLaws.{rule-due, rule-answer, rule-word, rule-chosen}
 use Rattle.lesson.proofs.WordLaws.{force-apart, Sends, word-small, plan-mode, plan-due, mode-follows, due-after-same}
@@ -78,7 +81,7 @@ bitOf b = oddBit ((b - 1) % 8)
 
 -- bits kept as sent, and one block more
 abbrev OneMore : ℕ → Type 0
-OneMore b = (f : ℕ) → KeptAsSent b f → KeptAsSent ((following (block b)) .0) (parts.lastSix f (bitOf b))
+OneMore b = (f : ℕ) → KeptAsSent b f → KeptAsSent ((following (block b)) .0) (parts.sixAfter f (bitOf b))
 
 bits-go-on : (b : ℕ) → 1 ≤ b → b ≤ 8 → OneMore b
 unfolding following number
@@ -94,11 +97,15 @@ bits-go-on =
     (λ f e. let g : (f % 32 * 2 + 0) % 1 ≡ 0 = omega arith in g)
 
 -- after block 6 they are 001011
-six-spelled : (f : ℕ) → KeptAsSent 6 f → parts.spelled (parts.lastSix f (bitOf 6)) ≡ true
+six-spelled : (f : ℕ) → KeptAsSent 6 f → parts.spelled (parts.sixAfter f (bitOf 6)) ≡ true
 unfolding number
 six-spelled f e = let h : f % 32 ≡ 5 = e in let g : f % 32 * 2 + 1 ≡ 11 = omega arith in eq-eqb (f % 32 * 2 + 1) 11 g
 
 -- ---- what is due at a sender stands as it is
+commanded-is : (item : Bool) (word : ℕ) (m : Mode) → cond item m (offered (commandOf word) m) ≡ commanded (cond item AnItem Plain) word m
+commanded-is true word m = refl
+commanded-is false word m = refl
+
 due-stands : (b : Bool) → standing (cond b AnItem Plain) ≡ cond b AnItem Plain
 due-stands true = refl
 due-stands false = refl
@@ -114,9 +121,9 @@ after-same d e n p = ap (λ (x : Due). dueAfterStanding x (Code n)) p
 -- ---- a place that is known goes on to the next block, and loses nothing that is due
 module _ (r : Reader) (b : BlockNumber) (due : Due) (same : r .block ≡ b) (bits : KeptAsSent (b .0) (r .firsts)) where
   abbrev six : ℕ
-  six = parts.lastSix (r .firsts) (bitOf (b .0))
+  six = parts.sixAfter (r .firsts) (bitOf (b .0))
 
-  abbrev Onward : Place → Type 0
+  abbrev Onward : Multiframe → Type 0
   Onward p = (p .block ≡ following b) × (p .due ≡ due)
 
   onward-by : (t : Bool) → eqb (r .block .0) 6 ≡ t
@@ -125,13 +132,13 @@ module _ (r : Reader) (b : BlockNumber) (due : Due) (same : r .block ≡ b) (bit
   onward-by true t =
       let n : b .0 ≡ 6 = ap (λ (q : BlockNumber). q .0) (sym same) ∙ eqb-true (r .block .0) 6 t in
       let right : parts.spelled six ≡ true =
-      subst (λ (k : ℕ). KeptAsSent k (r .firsts) → parts.spelled (parts.lastSix (r .firsts) (bitOf k)) ≡ true) (sym n) (six-spelled (r .firsts)) bits in
+      subst (λ (k : ℕ). KeptAsSent k (r .firsts) → parts.spelled (parts.sixAfter (r .firsts) (bitOf k)) ≡ true) (sym n) (six-spelled (r .firsts)) bits in
       let seven : block 7 ≡ following b = sym (ap (λ (k : ℕ). following (block k)) n) in
       rw right (seven, refl)
   onward-by false t = (ap following same, refl)
 
-  onward : known r ≡ true → Onward (placeAfter r (parts.spelled six) due)
-  unfolding placeAfter
+  onward : known r ≡ true → Onward (multiframeAfter r (parts.spelled six) due)
+  unfolding multiframeAfter
   onward k = rw k (onward-by (eqb (r .block .0) 6) refl)
 
 -- ---- an accepted call
@@ -146,25 +153,35 @@ module _ (s : Sender) (x : Turn) (rule : Rule) (w : Went s x rule) where
   header = headerFor s (x .call) (plan .word)
 
   pub sends : Sends s (x .call .code) rule
-  sends = record { kept = sending.kept s (w .goes .range); known = w .goes .known; apart = w .goes .apart }
+  sends = record { kept = sending.kept s (w .goes .range); known = λ g. w .goes .known (plain g); apart = λ g. w .goes .apart (plain g) }
+    where
+      plain : goesPlain rule ≡ true → goesPlain (ruleOf s (x .call .mute)) ≡ true
+      plain g = rw (w .rule-is) at g
 
   item-is : goesAsItem rule ≡ itemDue s
-  item-is = ap goesAsItem (w .goes .rule) ∙ rule-due s (x .call .mute)
+  item-is = ap goesAsItem (w .rule-is) ∙ rule-due s (x .call .mute)
 
   word-is : wordOf entry ≡ plan .word
   word-is =
       ap (λ (a : Answer). wordTold a (x .call .mute) s (x .call .code)) (w .answer)
-      ∙ ap (λ (q : Rule). wordTold ((planBy q s (x .call .code)) .answer) (x .call .mute) s (x .call .code)) (w .goes .rule)
+      ∙ ap (λ (q : Rule). wordTold ((planBy q s (x .call .code)) .answer) (x .call .mute) s (x .call .code)) (w .rule-is)
       ∙ rule-word s (x .call)
-      ∙ ap (λ (q : Rule). (planBy q s (x .call .code)) .word) (sym (w .goes .rule))
+      ∙ ap (λ (q : Rule). (planBy q s (x .call .code)) .word) (sym (w .rule-is))
 
   pub answered : Answered entry
   answered =
-      w .answer ∙ ap (λ (q : Rule). (planBy q s (x .call .code)) .answer) (w .goes .rule) ∙ rule-answer s (x .call)
+      w .answer ∙ ap (λ (q : Rule). (planBy q s (x .call .code)) .answer) (w .rule-is) ∙ rule-answer s (x .call)
 
   pub line-is : blockSent entry ≡ blockOf (s .mode) header (x .call .mute) (x .voice) (x .lsd)
   unfolding blockFor
   line-is = w .line
+
+  -- the word due after the call is the one that the slots' rule gives
+  due-on : dueAfterStanding (wordDue s) (Code (plan .word)) ≡ wordDue (after s x)
+  due-on =
+      ap (λ (b : Bool). dueAfterStanding (cond b AnItem Plain) (Code (plan .word))) (sym item-is)
+      ∙ due-after-same s (x .call .code) rule sends
+      ∙ ap (λ (q : Sender). cond (not (eqb (q .due) 0)) AnItem Plain) (sym (w .state))
 
   -- ---- the octets, and what the call leaves to the next
   laid-down : LaidDown entry
@@ -173,19 +190,21 @@ module _ (s : Sender) (x : Turn) (rule : Rule) (w : Went s x rule) where
       ∙ ap (λ (n : ℕ). blockOf (s .mode) (headerFor s (x .call) n) (x .call .mute) (x .voice) (x .lsd)) (sym word-is)
 
   pub goes-on : GoesOn entry (after s x)
+  unfolding dueAfter
   goes-on =
       record {
         number = ap (λ (q : Sender). q .block) (w .state);
         remainder = ap (λ (q : Sender). q .remainder) (w .state);
         mode =
             ap (λ (q : Sender). q .mode) (w .state) ∙ plan-mode s (x .call .code) rule sends
-            ∙ ap₂ (λ (b : Bool) (n : ℕ). cond b (s .mode) (offered (commandOf n) (s .mode))) item-is (sym word-is);
+            ∙ ap₂ (λ (b : Bool) (n : ℕ). cond b (s .mode) (offered (commandOf n) (s .mode))) item-is (sym word-is)
+            ∙ commanded-is (itemDue s) (wordOf entry) (s .mode);
         chosen =
             ap (λ (q : Sender). q .chosen) (w .state)
-            ∙ ap (λ (q : Rule). (planBy q s (x .call .code)) .chosen) (w .goes .rule) ∙ rule-chosen s (x .call);
+            ∙ ap (λ (q : Rule). (planBy q s (x .call .code)) .chosen) (w .rule-is) ∙ rule-chosen s (x .call);
         due =
-            ap (λ (q : Sender). q .due) (w .state) ∙ plan-due s (x .call .code) rule sends
-            ∙ ap₂ (λ (b : Bool) (n : ℕ). cond b 0 (dueNumber (openingOf n))) item-is (sym word-is);
+            sym
+            (ap₂ (λ (d : Due) (n : ℕ). dueAfterStanding d (Code n)) (due-stands (itemDue s)) word-is ∙ due-on);
       }
 
   -- ---- what the block shows a reader
@@ -226,10 +245,7 @@ module _ (s : Sender) (x : Turn) (rule : Rule) (w : Went s x rule) where
     due-is : parts.dueRead r (Code (plan .word)) ≡ wordDue (after s x)
     due-is =
         rw (st .knows)
-        (after-same (dueOf (r .slot)) (wordDue s) (plan .word) (st .due)
-        ∙ ap (λ (b : Bool). dueAfterStanding (cond b AnItem Plain) (Code (plan .word))) (sym item-is)
-        ∙ due-after-same s (x .call .code) rule sends
-        ∙ ap (λ (q : Sender). cond (not (eqb (q .due) 0)) AnItem Plain) (sym (w .state)))
+        (after-same (dueOf (r .slot)) (wordDue s) (plan .word) (st .due) ∙ due-on)
 
     next : readerAfter r entry ≡ nextOf r shown 0
     next = ap (λ (q : Stepped). q .state) (stepped small r)
@@ -257,7 +273,7 @@ module _ (s : Sender) (x : Turn) (rule : Rule) (w : Went s x rule) where
               ap (λ (q : Reader). standing (dueOf (q .slot))) next ∙ ap standing (due-back _ ∙ here .1 ∙ due-is) ∙ due-stands (itemDue (after s x));
           bits =
               subst (λ (q : Reader). KeptAsSent (after s x .block .0) (q .firsts)) (sym next)
-              (subst (λ (q : BlockNumber). KeptAsSent (q .0) (parts.lastSix (r .firsts) (bitOf b))) (sym number-on) (bits-go-on b lo hi (r .firsts) (st .bits)));
+              (subst (λ (q : BlockNumber). KeptAsSent (q .0) (parts.sixAfter (r .firsts) (bitOf b))) (sym number-on) (bits-go-on b lo hi (r .firsts) (st .bits)));
         }
 
     -- the reader's mode is what the word made of it
@@ -272,13 +288,13 @@ module _ (s : Sender) (x : Turn) (rule : Rule) (w : Went s x rule) where
         ∙ mode-follows s (x .call .code) rule sends ∙ sym (ap (λ (q : Sender). q .mode) (w .state))
 
     -- neutral makes any two modes the same
-    neutral-again : itemDue s ≡ false → plan .word ≡ neutral → (readerAfter r entry) .mode ≡ after s x .mode
+    neutral-again : wordDue s ≡ Plain → plan .word ≡ neutral → (readerAfter r entry) .mode ≡ after s x .mode
     unfolding obeyed followed offered readingIn commandOf readerCarries carried audioPlaces audioTable beside
     neutral-again none is =
         mode-read
-        ∙ ap₂ (λ (t : Bool) (n : ℕ). obeyed (readingIn (cond t AnItem Plain) (Code n)) (r .mode)) none is
+        ∙ ap₂ (λ (d : Due) (n : ℕ). obeyed (readingIn d (Code n)) (r .mode)) none is
         ∙ sym (goes-on .mode
-        ∙ ap₂ (λ (t : Bool) (n : ℕ). cond t (s .mode) (offered (commandOf n) (s .mode))) none (word-is ∙ is))
+        ∙ ap₂ (λ (d : Due) (n : ℕ). commanded d n (s .mode)) none (word-is ∙ is))
 
     agrees-again : Agrees (after s x) (readerAfter r entry)
     unfolding nextOf

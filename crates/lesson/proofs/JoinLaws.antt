@@ -11,23 +11,24 @@ use borrow.Author.Tests.{eqb-true, leb-true, not-true}
 use Rattle.bits.specs.Bits.{number}
 use Rattle.bits.proofs.Every.{and-left, and-right}
 use Rattle.modes.specs.Numbers.{following}
-use Rattle.modes.specs.Commands.{mode}
+use Rattle.modes.specs.Modes.{mode}
 use Rattle.modes.specs.declared.BlockNumber.{BlockNumber}
 use Rattle.slots.specs.Slots.{standing}
 use Rattle.slots.specs.Readings.{obeyed}
-use Rattle.slots.specs.declared.Due.the-variants.{Plain, AnItem}
-use Rattle.sender.specs.State.{itemDue}
-use Rattle.sender.specs.declared.Sender.{Sender}
-use Rattle.sender.specs.declared.Rule.{Rule}
-use Rattle.sender.proofs.RangeLaws.{kept}
-use Rattle.reader.specs.State.{block, unknown, known, slotOf, dueOf, stateInRange}
-use Rattle.reader.specs.Parts as parts
-use Rattle.reader.specs.Parts.{placeAfter}
-use Rattle.reader.specs.Step.{nextOf}
-use Rattle.reader.specs.declared.Reader.{Reader}
-use Rattle.reader.specs.declared.Slot.{Slot}
-use Rattle.reader.specs.declared.Stepped.{Stepped}
-use Rattle.reader.proofs.RangeLaws.{fresh-in-range, step-in-range}
+use Rattle.slots.specs.declared.Due.the-variants.{Plain}
+use Rattle.control.specs.State.{wordDue}
+use Rattle.control.specs.declared.Sender.{Sender}
+use Rattle.control.specs.declared.Rule.{Rule}
+use Rattle.control.proofs.RangeLaws.{kept}
+use Rattle.track.specs.State.{block, unknown, known, stateInRange}
+use Rattle.slots.specs.Slots.{slotOf, dueOf}
+use Rattle.track.specs.Parts as parts
+use Rattle.track.specs.Parts.{multiframeAfter}
+use Rattle.track.specs.Step.{nextOf}
+use Rattle.track.specs.declared.Reader.{Reader}
+use Rattle.slots.specs.declared.Slot.{Slot}
+use Rattle.track.specs.declared.Stepped.{Stepped}
+use Rattle.track.proofs.RangeLaws.{fresh-in-range, step-in-range}
 use Rattle.lesson.specs.Session.{Turn, after, Entry, log, blockSent, entryOf}
 use Rattle.lesson.specs.Demand2.{KeptAsSent, Placed, readerAfter, EightBits, FreshWaits, untilSix, senderOn, readerOn, FindsPlace, ComesIntoStep}
 use Rattle.lesson.proofs.TurnLaws.{Stayed, Went, turn-cases, log-stayed, log-went}
@@ -45,7 +46,7 @@ record Seeks (r : Reader) (f : ℕ) : Type 0 where
 
 -- the first bits after a block
 abbrev on : ℕ → ℕ → ℕ
-on b f = parts.lastSix f (bitOf b)
+on b f = parts.sixAfter f (bitOf b)
 
 -- the pattern comes with the nth block from block b on, which is block 6, and not before
 abbrev foundAt : ℕ → ℕ → ℕ → Bool
@@ -78,18 +79,18 @@ module _ (s : Sender) (x : Turn) (rule : Rule) (w : Went s x rule) (small : x .c
   mode-on = ap (λ (q : Reader). q .mode) next ∙ rw not-known
 
   block-on : (readerAfter r heard) .block ≡ parts.sought (parts.spelled (on (s .block .0) f))
-  unfolding nextOf placeAfter
+  unfolding nextOf multiframeAfter
   block-on = ap (λ (q : Reader). q .block) next ∙ rw (not-known, k .bits)
 
   slot-on : (readerAfter r heard) .slot ≡ slotOf Plain
-  unfolding nextOf placeAfter
+  unfolding nextOf multiframeAfter
   slot-on = ap (λ (q : Reader). q .slot) next ∙ rw (not-known, k .due)
 
   seeks-on : parts.spelled (on (s .block .0) f) ≡ false → Seeks (readerAfter r heard) (on (s .block .0) f)
   seeks-on e =
       record { range = step-in-range r (blockSent heard) (k .range); place = block-on ∙ rw e; due = slot-on; bits = firsts-on }
 
-  finds : s .block .0 ≡ 6 → parts.spelled (on (s .block .0) f) ≡ true → itemDue (after s x) ≡ false → Placed (after s x) (readerAfter r heard)
+  finds : s .block .0 ≡ 6 → parts.spelled (on (s .block .0) f) ≡ true → wordDue (after s x) ≡ Plain → Placed (after s x) (readerAfter r heard)
   unfolding following number
   finds six e none =
       let seventh : (readerAfter r heard) .block ≡ block 7 = block-on ∙ rw e in
@@ -99,7 +100,7 @@ module _ (s : Sender) (x : Turn) (rule : Rule) (w : Went s x rule) (small : x .c
         range = step-in-range r (blockSent heard) (k .range);
         knows = ap (λ (q : BlockNumber). not (eqb (q .0) 0)) seventh;
         place = seventh ∙ sym number-on;
-        due = ap (λ (q : Slot). standing (dueOf q)) slot-on ∙ sym (ap (λ (b : Bool). cond b AnItem Plain) none);
+        due = ap (λ (q : Slot). standing (dueOf q)) slot-on ∙ sym none;
         bits =
             subst (λ (q : BlockNumber). KeptAsSent (q .0) ((readerAfter r heard) .firsts)) (sym number-on)
             (subst (λ (n : ℕ). KeptAsSent 7 n) (sym eleven) refl);
@@ -108,7 +109,7 @@ module _ (s : Sender) (x : Turn) (rule : Rule) (w : Went s x rule) (small : x .c
 -- ---- over a session
 abbrev Joins : ℕ → Sender → Reader → List Entry → Type 0
 Joins n s r es =
-    n ≤ length es → itemDue (senderOn n s es) ≡ false → Placed (senderOn n s es) (readerOn n r es) × ((readerOn n r es) .mode ≡ r .mode)
+    n ≤ length es → wordDue (senderOn n s es) ≡ Plain → Placed (senderOn n s es) (readerOn n r es) × ((readerOn n r es) .mode ≡ r .mode)
 
 module _ (s : Sender) (x : Turn) (rule : Rule) (w : Went s x rule) (small : x .call .code < 256) (r : Reader) (f : ℕ) (k : Seeks r f)
     (es : List Entry) where

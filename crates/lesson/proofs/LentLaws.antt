@@ -2,14 +2,14 @@
 use mathlib.Core.Path.{_≡_, refl, sym, ap, _∙_}
 use mathlib.Core.List.{List, [], _∷_, map}
 use Rattle.slots.specs.Readings.{readingKind, readingCode}
-use Rattle.sender.specs.declared.Sender.{Sender}
-use Rattle.reader.specs.Parts.{standingNumber, verdictNumber}
+use Rattle.control.specs.declared.Sender.{Sender}
+use Rattle.track.specs.Parts.{standingNumber, verdictNumber}
 use Rattle.reader.specs.Step.{outcomeOf}
 use Rattle.reader.specs.declared.Answer.the-variants.{Block}
 use Rattle.reader.proofs.OutcomeLaws.{told}
 use Rattle.card.specs.Sending.{sent, lineSent}
-use Rattle.card.specs.Reading.{readAnswerOf}
-use Rattle.card.specs.declared.ReadAnswer.{ReadAnswer}
+use Rattle.answers.specs.Answers.{readAnswerOf}
+use Rattle.answers.specs.declared.ReadAnswer.{ReadAnswer}
 use Rattle.card.specs.declared.ReadOutcome.{ReadOutcome}
 use Rattle.lesson.specs.Session.{turned, run, blockSent}
 use Rattle.lesson.specs.Lent.{Given, LeftInC, LeavesInC, AllowedInC, turnOf, inC, LentIsSession, LentSilence, ReadBackInC}

@@ -1,17 +1,18 @@
 -- Demand 3, its second part: where mute stays set, its own "audio off" has gone as a command by the second accepted call.
-use mathlib.Core.Path.{_≡_, refl, subst, _∙_}
-use mathlib.Core.Bool.{Bool, true, false}
+use mathlib.Core.Path.{_≡_, refl, ap, subst, _∙_}
+use mathlib.Core.Bool.{Bool, true, false, cond}
 use mathlib.Core.List.{List, [], _∷_}
 use mathlib.Core.Logic.{_⊎_, inl, inr}
 use Prim.Native.Nat.{ℕ, zero, suc, _<_, suc-le-suc}
 use native.Mathlib.Nat.{not-suc-le-zero}
 use native.Mathlib.Omega.{arith}
-use Rattle.sender.specs.State.{itemDue, sounding}
-use Rattle.sender.specs.Rules.{ruleOf}
-use Rattle.sender.specs.Plans.{planBy}
-use Rattle.sender.specs.declared.Sender.{Sender}
-use Rattle.sender.specs.declared.Rule.{Rule}
-use Rattle.sender.specs.declared.Rule.the-variants.{AsItem, MuteOff}
+use Rattle.slots.specs.declared.Due.the-variants.{Plain, AnItem}
+use Rattle.control.specs.State.{itemDue, sounding}
+use Rattle.control.specs.Rules.{ruleOf}
+use Rattle.control.specs.Plans.{planBy}
+use Rattle.control.specs.declared.Sender.{Sender}
+use Rattle.control.specs.declared.Rule.{Rule}
+use Rattle.control.specs.declared.Rule.the-variants.{AsItem, MuteOff}
 use Rattle.lesson.specs.Session.{Turn, Entry, after, log, entryOf}
 use Rattle.lesson.specs.Demand3.{MuteStaysSet, MuteGone, By, MuteBound}
 use Rattle.lesson.proofs.TurnLaws.{Stayed, Went, turn-cases, log-stayed, log-went}
@@ -86,12 +87,12 @@ mute-moves s x rule h m w = go (itemDue s) refl
         → MuteGone (entryOf s x)
         ⊎ ((sounding (after s x) ≡ true) × (callsLeft (itemDue (after s x)) < callsLeft (itemDue s)))
     go true d =
-        let i : Went s x AsItem = subst (λ (q : Rule). Went s x q) (w .goes .rule ∙ item-rule s (x .call .mute) d) w in
+        let i : Went s x AsItem = subst (λ (q : Rule). Went s x q) (w .rule-is ∙ item-rule s (x .call .mute) d) w in
         inr (rw (i .state) h, rw (i .state, d) (omega arith))
     go false d =
         let own = mute-rule s (x .call .mute) d h m in
-        let o : Went s x MuteOff = subst (λ (q : Rule). Went s x q) (w .goes .rule ∙ own) w in
-        inl (record { command = d; muted = m; held = o .answer; octets = o .line })
+        let o : Went s x MuteOff = subst (λ (q : Rule). Went s x q) (w .rule-is ∙ own) w in
+        inl (record { command = ap (λ (b : Bool). cond b AnItem Plain) d; muted = m; held = o .answer; octets = o .line })
 
 pub mute-bound : MuteBound
 mute-bound s xs h m =

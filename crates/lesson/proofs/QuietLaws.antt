@@ -5,21 +5,23 @@ use mathlib.Core.Bool.{true, false}
 use Prim.Native.Nat.{ℕ, zero, suc}
 use native.Mathlib.Omega.{arith}
 use lib.ListN.{length, replicate}
-use Rattle.bits.specs.Crc.{blockCrcOf}
-use Rattle.modes.specs.Codes.{audioOff, lsdOff}
+use Rattle.crc.specs.Crc.{blockCrcOf}
 use Rattle.modes.specs.Numbers.{following}
-use Rattle.modes.specs.Carried.{carried, senderCarries, openingOf}
-use Rattle.modes.specs.Commands.{mode, commandOf, offered}
+use Rattle.modes.specs.Modes.{audioOff, lsdOff, off, mode}
 use Rattle.modes.specs.declared.BlockNumber.{BlockNumber}
-use Rattle.sender.specs.State.{itemDue, stateInRange}
-use Rattle.sender.specs.Rules.{ruleOf}
-use Rattle.sender.specs.Plans.{planBy}
-use Rattle.sender.specs.Refusals.{clashes, verdictOf}
+use Rattle.codes.specs.Carried.{carried, senderCarries, openingOf}
+use Rattle.codes.specs.Commands.{commandOf, offered}
+use Rattle.slots.specs.declared.Due.the-variants.{Plain}
+use Rattle.control.specs.State.{wordDue, stateInRange}
+use Rattle.control.specs.Rules.{ruleOf}
+use Rattle.control.specs.Plans.{planBy}
+use Rattle.control.specs.Refusals.{clashes, rulingOf}
+use Rattle.control.specs.Decisions.{decisionOf}
 use Rattle.sender.specs.Step.{blockFor, outcomeOf}
-use Rattle.sender.specs.declared.Sender.{Sender}
-use Rattle.sender.specs.declared.Answer.the-variants.{Sent}
-use Rattle.sender.proofs.RangeLaws.{stays-in-range}
-use Rattle.reader.specs.State.{freshIn}
+use Rattle.control.specs.declared.Sender.{Sender}
+use Rattle.control.specs.declared.Answer.the-variants.{Sent}
+use Rattle.sender.proofs.OutcomeLaws.{stays-in-range}
+use Rattle.track.specs.State.{freshIn}
 use Rattle.lesson.specs.Session.{Turn, turned, after, log}
 use Rattle.lesson.specs.Demand2.{InStep, EightBits, senderOn, readerOn}
 use Rattle.lesson.proofs.JoinLaws.{fresh-waits, comes-into-step}
@@ -35,14 +37,14 @@ still block remainder =
 
 module _ (b : BlockNumber) (n : ℕ) (range : stateInRange (still b n) ≡ true) where
   calm-sent : (turned (still b n) calm) .outcome .answer ≡ Sent
-  unfolding turned outcomeOf verdictOf ruleOf planBy senderCarries carried clashes
+  unfolding turned outcomeOf decisionOf rulingOf ruleOf planBy senderCarries carried clashes
   calm-sent = rw range
 
   abbrev next : ℕ
   next = blockCrcOf (blockFor (still b n) (calm .call) 0x80 (calm .voice) (calm .lsd))
 
   calm-after : after (still b n) calm ≡ still (following b) next
-  unfolding turned outcomeOf verdictOf ruleOf planBy senderCarries carried clashes commandOf offered openingOf
+  unfolding turned outcomeOf decisionOf rulingOf ruleOf planBy senderCarries carried clashes commandOf offered openingOf
   calm-after = rw (range, after)
 
   still-range : stateInRange (still (following b) next) ≡ true
@@ -53,7 +55,7 @@ module _ (b : BlockNumber) (n : ℕ) (range : stateInRange (still b n) ≡ true)
 record Calm (k : ℕ) (s : Sender) : Type 0 where
   all : length (log s (replicate k calm)) ≡ k
   off : (senderOn k s (log s (replicate k calm))) .mode ≡ mode audioOff lsdOff
-  none : itemDue (senderOn k s (log s (replicate k calm))) ≡ false
+  none : wordDue (senderOn k s (log s (replicate k calm))) ≡ Plain
 
 calms : (k : ℕ) (b : BlockNumber) (n : ℕ) → stateInRange (still b n) ≡ true → Calm k (still b n)
 calms zero b n range = record { all = refl; off = refl; none = refl }
@@ -72,7 +74,7 @@ eight-bits (suc k) = (omega arith, eight-bits k)
 -- a fresh reader and a fresh sender
 pub six-quiet-example :
     (let es = log fresh (replicate 6 calm) in
-    InStep (senderOn 6 fresh es) (readerOn 6 (freshIn (mode audioOff lsdOff)) es))
+    InStep (senderOn 6 fresh es) (readerOn 6 (freshIn off) es))
 six-quiet-example =
     let c = calms 6 (record { 0 = 1 }) 0 fresh-range in
     comes-into-step fresh _ (replicate 6 calm) fresh-range (eight-bits 6) fresh-waits (omega (arith, c .all)) (c .none) (c .off)

@@ -1,5 +1,5 @@
 -- Demand 1, call by call.
-use mathlib.Core.Path.{_≡_, refl, _∙_}
+use mathlib.Core.Path.{_≡_, refl, ap, _∙_}
 use mathlib.Core.Bool.{Bool, true, false, not, cond, _||_}
 use mathlib.Core.List.{List, _∷_}
 use Prim.Native.Nat.{ℕ, zero, suc, _+_, _-_}
@@ -7,69 +7,63 @@ use native.Mathlib.Omega.{arith}
 use lib.Dec.{eqb, ltb}
 use lib.ListN.{length, getD, drop, length-drop, drop-of-length-le}
 use lib.Seq.{drop-cons}
-use Rattle.sender.specs.State as sender
-use Rattle.sender.specs.Plans.{planBy}
-use Rattle.sender.specs.Refusals as sender-list
+use Rattle.refusals.specs.Rows.{rulingNumber}
+use Rattle.refusals.specs.declared.Refusal.the-variants.{BadRecording}
+use Rattle.refusals.specs.declared.Ruling.{Ruling}
+use Rattle.refusals.specs.declared.Ruling.the-variants.{Refuse, Accept}
+use Rattle.refusals.proofs.RowLaws.{number-is}
+use Rattle.control.specs.State as sender
+use Rattle.control.specs.Refusals as sender-list
 use Rattle.sender.specs.Step as sending
+use Rattle.sender.proofs.OutcomeLaws.{refused-is}
 use Rattle.presets.specs.Presets.{isPreset, presetRead, presetWritten, presetNumber, writtenNumber}
-use Rattle.sender.specs.declared.Sender.{Sender}
-use Rattle.sender.specs.declared.Call.{Call}
-use Rattle.sender.specs.declared.Rule.{Rule}
-use Rattle.sender.specs.declared.Rule.the-variants.{AsItem, MuteOff, Release, Offered}
-use Rattle.sender.specs.declared.Verdict as verdict
-use Rattle.reader.specs.State as reader
+use Rattle.control.specs.declared.Sender.{Sender}
+use Rattle.control.specs.declared.Call.{Call}
+use Rattle.track.specs.State as reader
 use Rattle.reader.specs.Refusals as reader-list
 use Rattle.reader.specs.Step as reading
-use Rattle.reader.specs.declared.Reader.{Reader}
-use Rattle.reader.specs.declared.Ruling as ruling
+use Rattle.track.specs.declared.Reader.{Reader}
 use Rattle.search.specs.Finding as finding
 use Rattle.search.specs.declared.Found.{Found}
-use Rattle.search.specs.declared.Refusal.the-variants.{RecordingLength}
 use Rattle.recording.specs.Refusals as walk-list
 use Rattle.recording.specs.Walk as walk
-use Rattle.recording.specs.declared.Refusal.the-variants.{BadState, VoiceLength, DataLength, PastTheEnd}
-use Rattle.recording.specs.declared.Ruling.{Ruling}
-use Rattle.recording.specs.declared.Ruling.the-variants.{Refuse, Go}
 use Rattle.recording.specs.declared.Answer.the-variants.{End}
-use Rattle.lesson.specs.Demand1.{smallest, sendingRows, Sending, Reading, somewhere, Searching, Stepping, ReadingPreset, WritingPreset}
+use Rattle.lesson.specs.Demand1.{first, sendingRows, Sending, Reading, somewhere, Searching, Stepping, ReadingPreset, WritingPreset}
 use Rattle.lesson.proofs.RuleLaws.{rule-due, rule-plain}
 
 sending-number : (s : Sender) (c : Call) (voice lsd line : List ℕ)
-    → sender-list.refusalNumber s c (length line) (length voice) (length lsd) ≡ smallest (sendingRows s c voice lsd line)
-unfolding sender-list.refusalNumber
-sending-number s c voice lsd line = rw (rule-plain s c, rule-due s (c .mute))
-
--- a word that goes is no refusal
-not-refused : (rule : Rule) (s : Sender) (c : Call) (voice lsd : List ℕ)
-    → sender-list.numberIn ((sending.outcomeBy (verdict.the-variants.Goes rule) s c voice lsd) .answer) ≡ 0
-unfolding planBy
-not-refused AsItem s c voice lsd = refl
-not-refused MuteOff s c voice lsd = refl
-not-refused Release s c voice lsd = refl
-not-refused Offered s c voice lsd = refl
+    → rulingNumber (sending.ruled s c voice lsd line) ≡ first (sendingRows s c voice lsd line)
+unfolding sender-list.rulingOf
+sending-number s c voice lsd line =
+    number-is (sender-list.rows s c (length line) (length voice) (length lsd)) ∙ rw (rule-plain s c, rule-due s (c .mute))
 
 pub sending-refuses : Sending
-unfolding sending.outcomeOf sending.lineOf
 sending-refuses s c voice lsd line r l t =
     record {
       ordered = refl;
       exact = t .number ∙ sending-number s c voice lsd line;
-      kept = go (sending.judged s c voice lsd line) refl;
+      kept = go (sending.ruled s c voice lsd line) refl;
     }
   where
-    go : (q : verdict.Verdict) → sending.judged s c voice lsd line ≡ q → (sender-list.numberIn (r .answer) ≡ 0 → ⊥) → (r .state ≡ s) × (l ≡ line)
-    go (verdict.the-variants.Refuse why) e h = (rw (t .outcome, e), rw (t .octets, e))
-    go (verdict.the-variants.Goes rule) e h = absurd (h (rw (t .outcome, e) (not-refused rule s c voice lsd)))
+    go : (q : Ruling) → sending.ruled s c voice lsd line ≡ q → (sender-list.numberIn (r .answer) ≡ 0 → ⊥) → (r .state ≡ s) × (l ≡ line)
+    go (Refuse why) e h =
+        let still = refused-is s c voice lsd line why e in
+        (rw (t .outcome, still .0), t .octets ∙ still .1)
+    go Accept e h = absurd (h (t .number ∙ ap rulingNumber e))
 
 pub reading-refuses : Reading
-unfolding reading.outcomeOf reading.voiceOf reading.lsdOf reader-list.refusalNumber
+unfolding reading.outcomeOf reading.voiceOf reading.lsdOf reader-list.rulingOf
 reading-refuses s line voice lsd r v d t =
-    record { ordered = refl; exact = t .number; kept = go (reading.ruled s line voice lsd) refl }
+    record {
+      ordered = refl;
+      exact = t .number ∙ number-is (reader-list.rows s (length line) (length voice) (length lsd));
+      kept = go (reading.ruled s line voice lsd) refl;
+    }
   where
-    go : (q : ruling.Ruling) → reading.ruled s line voice lsd ≡ q → (reader-list.numberIn (r .answer) ≡ 0 → ⊥)
+    go : (q : Ruling) → reading.ruled s line voice lsd ≡ q → (reader-list.numberIn (r .answer) ≡ 0 → ⊥)
         → (r .state ≡ s) × (v ≡ voice) × (d ≡ lsd)
-    go (ruling.the-variants.Refuse why) e h = (rw (t .outcome, e), rw (t .heard, e), rw (t .given, e))
-    go ruling.the-variants.Take e h = absurd (h (rw (t .outcome, e)))
+    go (Refuse why) e h = (rw (t .outcome, e), rw (t .heard, e), rw (t .given, e))
+    go Accept e h = absurd (h (rw (t .outcome, e)))
 
 -- ---- the search goes through the places one by one, and so does the test for some place
 first-number : (n at : ℕ) (recording : List ℕ) → length recording - at ≡ n
@@ -96,7 +90,7 @@ searching-refuses recording start r e =
     }
   where
     go : (b : Bool)
-        → finding.foundNumber (cond b (Found.Refused RecordingLength) (finding.firstOf (length recording - start) start recording))
+        → finding.foundNumber (cond b (Found.Refused BadRecording) (finding.firstOf (length recording - start) start recording))
         ≡ cond b 9 (cond (not (somewhere (drop start recording))) 10 0)
     go true = refl
     go false = first-number (length recording - start) start recording refl
@@ -113,31 +107,19 @@ module _ (recording : List ℕ) (place : ℕ) (lost : Bool) (s : Reader) where
       go false f true = refl
       go false f false = refl
 
-  step-number : (voice lsd : ℕ)
-      → walk-list.numberIn (walk.answerBy (walk-list.rulingOf (length recording) place s voice lsd) recording place lost s)
-      ≡ cond (not (reader.stateInRange s)) 1
-      (cond (not (eqb voice 140)) 3
-      (cond (not (eqb lsd 156)) 4
-      (cond (ltb 65536 (length recording) || ltb (length recording) place) 9 0)))
-  unfolding walk-list.rulingOf
-  step-number voice lsd =
-      go (reader.stateInRange s) (eqb voice 140) (eqb lsd 156) (ltb 65536 (length recording) || ltb (length recording) place)
-    where
-      go : (r v d p : Bool)
-          → walk-list.numberIn (walk.answerBy (cond (not r) (Refuse BadState) (cond (not v) (Refuse VoiceLength) (cond (not d) (Refuse DataLength) (cond p (Refuse PastTheEnd) Go)))) recording place lost s)
-          ≡ cond (not r) 1 (cond (not v) 3 (cond (not d) 4 (cond p 9 0)))
-      go false v d p = refl
-      go true false d p = refl
-      go true true false p = refl
-      go true true true true = refl
-      go true true true false = here-number
+  -- the answer's number is that of the ruling
+  step-number : (q : Ruling) → walk-list.numberIn (walk.answerBy q recording place lost s) ≡ rulingNumber q
+  step-number (Refuse why) = refl
+  step-number Accept = here-number
 
 pub stepping-refuses : Stepping
-unfolding walk.stepAt walk.voiceAt walk.lsdAt walk.answerAt
+unfolding walk.stepAt walk.voiceAt walk.lsdAt walk.answerAt walk-list.rulingOf
 stepping-refuses recording place lost s voice lsd r v d er ev ed =
     record {
       ordered = refl;
-      exact = rw er (step-number recording place lost s (length voice) (length lsd));
+      exact = rw er
+          (step-number recording place lost s (walk-list.rulingOf (length recording) place s (length voice) (length lsd))
+          ∙ number-is (walk-list.rows (length recording) place s (length voice) (length lsd)));
       kept = go (walk-list.rulingOf (length recording) place s (length voice) (length lsd)) refl;
     }
   where
@@ -145,7 +127,7 @@ stepping-refuses recording place lost s voice lsd r v d er ev ed =
         → (walk-list.numberIn (r .answer) ≡ 0 → ⊥)
         → (r .reader ≡ s) × (r .place ≡ place) × (r .lost ≡ lost) × (v ≡ voice) × (d ≡ lsd)
     go (Refuse why) e h = (rw (er, e), rw (er, e), rw (er, e), rw (ev, e), rw (ed, e))
-    go Go e h = absurd (h (rw (er, e) (here-number recording place lost s)))
+    go Accept e h = absurd (h (rw (er, e) (here-number recording place lost s)))
 
 pub reading-preset-refuses : ReadingPreset
 unfolding presetRead

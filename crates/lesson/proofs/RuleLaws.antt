@@ -1,18 +1,18 @@
 -- By which rule a word goes: what the rule says of the answer, the word, the offered code and the chosen audio.
 use mathlib.Core.Path.{_≡_, refl}
 use mathlib.Core.Bool.{Bool, true, false, not, cond, _&&_, _||_}
-use Rattle.modes.specs.Commands.{commandOf, offered}
-use Rattle.modes.specs.declared.Command.{Command}
-use Rattle.modes.specs.declared.Command.the-variants.{Neutral, SetAudio, SetLsd, NoEffect}
-use Rattle.sender.specs.State.{itemDue, sounding, choosing}
-use Rattle.sender.specs.Rules.{ruleOf}
-use Rattle.sender.specs.Plans.{sounds, planBy}
-use Rattle.sender.specs.Refusals.{goesPlain, goesAsItem}
-use Rattle.sender.specs.declared.Sender.{Sender}
-use Rattle.sender.specs.declared.Call.{Call}
-use Rattle.sender.specs.declared.Rule.{Rule}
-use Rattle.sender.specs.declared.Rule.the-variants.{AsItem, MuteOff, Release, Offered}
-use Rattle.sender.specs.declared.Answer.the-variants.{Sent, Held}
+use Rattle.codes.specs.Commands.{commandOf, offered}
+use Rattle.codes.specs.declared.Command.{Command}
+use Rattle.codes.specs.declared.Command.the-variants.{Neutral, SetAudio, SetLsd, NoEffect}
+use Rattle.control.specs.State.{itemDue, sounding, choosing, chosenMode}
+use Rattle.control.specs.Rules.{ruleOf}
+use Rattle.control.specs.Plans.{planBy}
+use Rattle.control.specs.Refusals.{goesPlain, goesAsItem}
+use Rattle.control.specs.declared.Sender.{Sender}
+use Rattle.control.specs.declared.Call.{Call}
+use Rattle.control.specs.declared.Rule.{Rule}
+use Rattle.control.specs.declared.Rule.the-variants.{AsItem, MuteOff, Release, Offered}
+use Rattle.control.specs.declared.Answer.the-variants.{Sent, Held}
 use Rattle.lesson.specs.Demand1.{held, plain}
 use Rattle.lesson.specs.Demand2.{wordTold, chosenBy}
 
@@ -68,7 +68,7 @@ rule-word s c =
     (λ m f k. refl) (λ k. refl) refl (λ k. refl) (λ k. refl) refl s (c .mute)
 
 -- only an offered command changes what is chosen
-offered-chosen : (s : Sender) (command : Command) → (offered command (sounds s (s .chosen))) .audio ≡ chosenBy command (s .chosen)
+offered-chosen : (s : Sender) (command : Command) → (offered command (chosenMode s)) .audio ≡ chosenBy command (s .chosen)
 unfolding offered
 offered-chosen s Neutral = refl
 offered-chosen s (SetAudio v) = refl

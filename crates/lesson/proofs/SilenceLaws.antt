@@ -5,19 +5,18 @@ use mathlib.Core.List.{List, [], _∷_}
 use Prim.Native.Nat.{ℕ}
 use borrow.Author.Tests.{eqb-true, not-false}
 use lib.ListN.{length}
-use Rattle.modes.specs.Codes.{audioOff}
 use Rattle.modes.specs.Table.{audioTable, audioPlaces, beside}
 use Rattle.modes.specs.Owners.{heldBy}
+use Rattle.modes.specs.Modes.{audioOff}
 use Rattle.modes.specs.declared.Mode.{Mode}
 use Rattle.places.specs.Layout.{layoutOf}
 use Rattle.frame.proofs.BlockLaws.{silent-muted, silent-off}
-use Rattle.sender.specs.State.{sounding}
-use Rattle.sender.specs.Step.{headerFor, blockFor, judged, outcomeBy, outcomeOf, lineBy, lineOf, Told}
-use Rattle.sender.specs.declared.Sender.{Sender}
-use Rattle.sender.specs.declared.Call.{Call}
-use Rattle.sender.specs.declared.Verdict.{Verdict}
-use Rattle.sender.specs.declared.Verdict.the-variants.{Refuse, Goes}
-use Rattle.sender.proofs.OutcomeLaws.{refused-is, went-is}
+use Rattle.control.specs.State.{sounding}
+use Rattle.sender.specs.Step.{headerFor, blockFor, stateBy, lineBy, decided, outcomeOf, lineOf, Told}
+use Rattle.control.specs.declared.Sender.{Sender}
+use Rattle.control.specs.declared.Call.{Call}
+use Rattle.control.specs.declared.Decision.{Decision}
+use Rattle.sender.proofs.OutcomeLaws.{told}
 use Rattle.lesson.specs.Session.{Turn, Left, turned, after, run, Allowed}
 use Rattle.lesson.specs.Demand3.{silent, AlikeTurn, Alike, Silence}
 
@@ -47,14 +46,12 @@ turn-same : (s : Sender) (x : Turn) (other : List ℕ) → length (x .voice) ≡
     → ((word : ℕ) → blockFor s (x .call) word (x .voice) (x .lsd) ≡ blockFor s (x .call) word other (x .lsd))
     → turned s x ≡ turned s (lent x other)
 unfolding turned outcomeOf lineOf
-turn-same s x other lengths blocks = rw lengths (by-verdict (judged s (x .call) other (x .lsd) (x .line)))
+turn-same s x other lengths blocks =
+    let d = decided s (x .call) other (x .lsd) (x .line) in
+    rw lengths (ap (left d) (blocks (d .word)))
   where
-    left : Verdict → List ℕ → Left
-    left v voice = record { outcome = outcomeBy v s (x .call) voice (x .lsd); line = lineBy v s (x .call) voice (x .lsd) (x .line) }
-
-    by-verdict : (v : Verdict) → left v (x .voice) ≡ left v other
-    by-verdict (Refuse r) = refl
-    by-verdict (Goes rule) = rw (blocks _)
+    left : Decision → List ℕ → Left
+    left d block = record { outcome = record { state = stateBy d block; answer = d .answer }; line = lineBy d block (x .line) }
 
 turn-alike : (s : Sender) (x y : Turn) → AlikeTurn s x y → turned s x ≡ turned s y
 turn-alike s x y h =
@@ -78,13 +75,8 @@ unfolding turned
 left-is s x l h = λ i. record { outcome = h .outcome i; line = h .octets i }
 
 pub turn-told : (s : Sender) (x : Turn) → Told s (x .call) (x .voice) (x .lsd) (x .line) ((turned s x) .outcome) ((turned s x) .line)
-unfolding turned outcomeOf lineOf
-turn-told s x = go (judged s (x .call) (x .voice) (x .lsd) (x .line)) refl
-  where
-    go : (v : Verdict) → judged s (x .call) (x .voice) (x .lsd) (x .line) ≡ v
-        → Told s (x .call) (x .voice) (x .lsd) (x .line) ((turned s x) .outcome) ((turned s x) .line)
-    go (Refuse q) e = rw e (refused-is s (x .call) (x .voice) (x .lsd) (x .line) q e)
-    go (Goes q) e = rw e (went-is s (x .call) (x .voice) (x .lsd) (x .line) q _ _ _ _ e refl refl refl refl)
+unfolding turned
+turn-told s x = told s (x .call) (x .voice) (x .lsd) (x .line)
 
 -- the contract leaves nothing open over a whole session: what it allows is `run`
 pub session-is : (s : Sender) (xs : List Turn) (ls : List Left) → Allowed s xs ls → ls ≡ run s xs

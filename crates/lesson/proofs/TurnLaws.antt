@@ -3,17 +3,19 @@ use mathlib.Core.Path.{_≡_, refl}
 use mathlib.Core.List.{List, _∷_}
 use mathlib.Core.Logic.{_⊎_, inl, inr}
 use lib.ListN.{length}
-use Rattle.bits.specs.Crc.{blockCrcOf}
-use Rattle.sender.specs.Plans.{planBy}
-use Rattle.sender.specs.Step.{blockFor, nextBy, judged, outcomeOf, lineOf}
-use Rattle.sender.specs.declared.Sender.{Sender}
-use Rattle.sender.specs.declared.Rule.{Rule}
-use Rattle.sender.specs.declared.Rule.the-variants.{AsItem, MuteOff, Release, Offered}
-use Rattle.sender.specs.declared.Refusal.{Refusal}
-use Rattle.sender.specs.declared.Verdict.{Verdict}
-use Rattle.sender.specs.declared.Verdict.the-variants.{Refuse, Goes}
-use Rattle.sender.specs.declared.Answer.the-variants.{Refused}
-use Rattle.sender.proofs.GoesLaws.{Goes-by, goes-by}
+use Rattle.crc.specs.Crc.{blockCrcOf}
+use Rattle.control.specs.Plans.{planBy}
+use Rattle.control.specs.Rules.{ruleOf}
+use Rattle.control.specs.Decisions.{nextBy, withRemainder, decisionOf}
+use Rattle.sender.specs.Step.{blockFor, ruled, outcomeOf, lineOf}
+use Rattle.control.specs.declared.Sender.{Sender}
+use Rattle.control.specs.declared.Rule.{Rule}
+use Rattle.control.specs.declared.Rule.the-variants.{AsItem, MuteOff, Release, Offered}
+use Rattle.refusals.specs.declared.Refusal.{Refusal}
+use Rattle.refusals.specs.declared.Ruling.{Ruling}
+use Rattle.refusals.specs.declared.Ruling.the-variants.{Refuse, Accept}
+use Rattle.control.specs.declared.Answer.the-variants.{Refused}
+use Rattle.control.proofs.GoesLaws.{Goes, goes}
 use Rattle.lesson.specs.Session.{Turn, turned, after, log, entryOf}
 
 pub record Stayed (s : Sender) (x : Turn) : Type 0 where
@@ -22,21 +24,22 @@ pub record Stayed (s : Sender) (x : Turn) : Type 0 where
   pub state : after s x ≡ s
   pub line : (turned s x) .line ≡ x .line
 
--- `goes` says that the state is in range, the three lengths, and that the rule is that of the state and mute
+-- `goes` says that the state is in range and the three lengths; the rule is that of the state and mute
 pub record Went (s : Sender) (x : Turn) (rule : Rule) : Type 0 where
-  pub goes : Goes-by s (x .call) (length (x .line)) (length (x .voice)) (length (x .lsd)) rule
+  pub goes : Goes s (x .call) (length (x .line)) (length (x .voice)) (length (x .lsd))
+  pub rule-is : rule ≡ ruleOf s (x .call .mute)
   pub answer : (turned s x) .outcome .answer ≡ (planBy rule s (x .call .code)) .answer
-  pub state : after s x ≡ nextBy (planBy rule s (x .call .code)) s (blockCrcOf ((turned s x) .line))
+  pub state : after s x ≡ withRemainder (nextBy (planBy rule s (x .call .code)) s) (blockCrcOf ((turned s x) .line))
   pub line : (turned s x) .line ≡ blockFor s (x .call) ((planBy rule s (x .call .code)) .word) (x .voice) (x .lsd)
 
 pub turn-cases : (s : Sender) (x : Turn) → Stayed s x ⊎ ((rule : Rule) × Went s x rule)
-unfolding turned outcomeOf lineOf
-turn-cases s x = go (judged s (x .call) (x .voice) (x .lsd) (x .line)) refl
+unfolding turned outcomeOf lineOf decisionOf
+turn-cases s x = go (ruled s (x .call) (x .voice) (x .lsd) (x .line)) refl
   where
-    go : (v : Verdict) → judged s (x .call) (x .voice) (x .lsd) (x .line) ≡ v → Stayed s x ⊎ ((rule : Rule) × Went s x rule)
+    go : (q : Ruling) → ruled s (x .call) (x .voice) (x .lsd) (x .line) ≡ q → Stayed s x ⊎ ((rule : Rule) × Went s x rule)
     go (Refuse r) e = inl (record { why = r; answer = rw e; state = rw (e, after); line = rw e })
-    go (Goes rule) e =
-        inr (rule, record { goes = goes-by s (x .call) _ _ _ rule e; answer = rw e; state = rw (e, after); line = rw e })
+    go Accept e =
+        inr (ruleOf s (x .call .mute), record { goes = goes s (x .call) _ _ _ e; rule-is = refl; answer = rw e; state = rw (e, after); line = rw e })
 
 -- ---- the log after a call that is refused, and after one whose word goes
 pub log-stayed : (s : Sender) (x : Turn) (xs : List Turn) → Stayed s x → log s (x ∷ xs) ≡ log s xs

@@ -7,28 +7,32 @@ use native.Mathlib.Omega.{arith}
 use lib.Dec.{eqb, leb}
 use borrow.Author.Tests.{eqb-true, eqb-false, eq-eqb, ne-eqb, leb-false, lt-leb}
 use Rattle.bas.specs.declared.Word.the-variants.{Code}
-use Rattle.modes.specs.Codes.{attribute, value, written, audioAttribute, audioOff, listedAudio}
+use Rattle.modes.specs.Table.{listedAudio}
 use Rattle.modes.specs.Owners.{overlaps}
-use Rattle.modes.specs.Carried.{carried, senderCarries, readerCarries, openingOf}
-use Rattle.modes.specs.Commands.{mode, commandOf, offered, followed}
+use Rattle.modes.specs.Modes.{audioOff, mode}
 use Rattle.modes.specs.declared.Mode.{Mode}
-use Rattle.modes.specs.declared.Command.{Command}
-use Rattle.modes.specs.declared.Command.the-variants.{Neutral, SetAudio, SetLsd, NoEffect}
-use Rattle.modes.specs.declared.Opening.{Opening}
-use Rattle.modes.specs.declared.Opening.the-variants.{Nothing, Item, Message}
-use Rattle.modes.proofs.ModeLaws.{audio-code, lsd-code, audio-small, audio-off-apart, off-ranged}
+use Rattle.modes.proofs.ModeLaws.{audio-small, audio-off-apart, cleared-voice, cleared-lsd, off-ranged}
+use Rattle.codes.specs.Codes.{attribute, value, written, audioAttribute}
+use Rattle.codes.specs.Carried.{carried, senderCarries, readerCarries, openingOf}
+use Rattle.codes.specs.Commands.{commandOf, offered, followed}
+use Rattle.codes.specs.declared.Command.{Command}
+use Rattle.codes.specs.declared.Command.the-variants.{Neutral, SetAudio, SetLsd, NoEffect}
+use Rattle.codes.specs.declared.Opening.{Opening}
+use Rattle.codes.specs.declared.Opening.the-variants.{Nothing, Item, Message}
+use Rattle.codes.proofs.CodeLaws.{audio-code, lsd-code}
 use Rattle.slots.specs.Slots.{dueBy, dueAfterStanding}
 use Rattle.slots.specs.Readings.{readingIn, obeyed}
 use Rattle.slots.specs.declared.Due.the-variants.{Plain, AnItem}
 use Rattle.slots.specs.declared.Reading.{Reading}
 use Rattle.slots.specs.declared.Reading.the-variants.{Mended}
 use Rattle.slots.proofs.SlotLaws.{item-no-command}
-use Rattle.sender.specs.Plans.{dueNumber, planBy}
-use Rattle.sender.specs.Refusals.{isAudio, isLsd, clashes, goesPlain, goesAsItem}
-use Rattle.sender.specs.declared.Sender.{Sender}
-use Rattle.sender.specs.declared.Rule.{Rule}
-use Rattle.sender.specs.declared.Rule.the-variants.{AsItem, MuteOff, Release, Offered}
-use Rattle.sender.proofs.RangeLaws.{Kept, or-left, or-right}
+use Rattle.control.specs.Plans.{dueNumber, planBy}
+use Rattle.control.specs.Refusals.{isAudio, isLsd, clashes, goesPlain, goesAsItem}
+use Rattle.control.specs.declared.Sender.{Sender}
+use Rattle.control.specs.declared.Rule.{Rule}
+use Rattle.control.specs.declared.Rule.the-variants.{AsItem, MuteOff, Release, Offered}
+use Rattle.control.proofs.RangeLaws.{Kept}
+use Rattle.bits.proofs.Every.{or-left-false, or-right-false}
 
 -- ---- what is known of a word that goes
 pub record Sends (s : Sender) (code : ℕ) (rule : Rule) : Type 0 where
@@ -128,8 +132,8 @@ module _ (m : Mode) where
       → followed command m ≡ offered command m
   unfolding followed offered
   follow-offer Neutral a d = refl
-  follow-offer (SetAudio v) a d = rw (a v refl)
-  follow-offer (SetLsd v) a d = rw (d v refl)
+  follow-offer (SetAudio v) a d = cleared-voice _ ∙ rw (a v refl)
+  follow-offer (SetLsd v) a d = cleared-lsd _ ∙ rw (d v refl)
   follow-offer NoEffect a d = refl
 
 module _ (s : Sender) (k : Kept s) where
@@ -166,13 +170,13 @@ module _ (s : Sender) (k : Kept s) where
     unfolding clashes
     offered-audio v e =
         let a = audio-code code v e in
-        ap (λ (n : ℕ). overlaps (mode n (s .mode .lsd))) (a .is) ∙ rw (a .kind) at (or-left spoken given none)
+        ap (λ (n : ℕ). overlaps (mode n (s .mode .lsd))) (a .is) ∙ rw (a .kind) at (or-left-false spoken given none)
 
     offered-lsd : (v : ℕ) → commandOf code ≡ SetLsd v → overlaps (mode (s .mode .audio) v) ≡ false
     unfolding clashes
     offered-lsd v e =
         let d = lsd-code code v e in
-        force-apart v (ap (λ (n : ℕ). overlaps (mode (s .chosen) n)) (d .is) ∙ rw (d .kind) at (or-right spoken given none))
+        force-apart v (ap (λ (n : ℕ). overlaps (mode (s .chosen) n)) (d .is) ∙ rw (d .kind) at (or-right-false spoken given none))
 
 -- ---- the reading of a word in the slot that is due
 obeyed-mended : (w : ℕ) (m : Mode) → obeyed (Mended w) m ≡ followed (commandOf w) m

@@ -2,26 +2,27 @@
 -- refusal leaves state and buffers untouched.
 use mathlib.Core.Path.{_≡_}
 use mathlib.Core.Bool.{Bool, true, false, not, cond, _&&_, _||_}
-use mathlib.Core.List.{List, [], _∷_}
+use mathlib.Core.List.{List, [], _∷_, map}
 use Prim.Native.Nat.{ℕ}
 use lib.Dec.{eqb, ltb}
 use lib.ListN.{length, drop}
-use Rattle.modes.specs.Codes.{attribute}
-use Rattle.modes.specs.Carried.{senderCarries}
-use Rattle.sender.specs.State.{itemDue, sounding, choosing}
-use Rattle.sender.specs.State as sender
-use Rattle.sender.specs.Refusals as sender-list
+use Rattle.codes.specs.Codes.{attribute}
+use Rattle.codes.specs.Carried.{senderCarries}
+use Rattle.refusals.specs.Numbers.{ranked}
+use Rattle.control.specs.State.{itemDue, sounding, choosing}
+use Rattle.control.specs.State as sender
+use Rattle.control.specs.Refusals as sender-list
 use Rattle.sender.specs.Step as sending
 use Rattle.presets.specs.Presets.{isPreset, presetRead, presetWritten, presetNumber, writtenNumber}
-use Rattle.sender.specs.declared.Sender.{Sender}
-use Rattle.sender.specs.declared.Call.{Call}
+use Rattle.control.specs.declared.Sender.{Sender}
+use Rattle.control.specs.declared.Call.{Call}
 use Rattle.sender.specs.declared.Outcome as sent
 use Rattle.presets.specs.declared.PresetRead.{PresetRead}
 use Rattle.presets.specs.declared.PresetWritten.{PresetWritten}
-use Rattle.reader.specs.State as reader
+use Rattle.track.specs.State as reader
 use Rattle.reader.specs.Refusals as reader-list
 use Rattle.reader.specs.Step as reading
-use Rattle.reader.specs.declared.Reader.{Reader}
+use Rattle.track.specs.declared.Reader.{Reader}
 use Rattle.reader.specs.declared.Outcome as read
 use Rattle.search.specs.Finding as finding
 use Rattle.search.specs.declared.Found.{Found}
@@ -37,21 +38,16 @@ pub record Row : Type 0 where
 abbrev pub row : ℕ → Bool → Row
 row n b = record { number = n; given = b }
 
--- smaller number first: the number of the first row that is given, 0 where none is
-abbrev pub smallest : List Row → ℕ
-smallest [] = 0
-smallest (r ∷ rs) = cond (r .given) (r .number) (smallest rs)
+-- the number of the first row that is given, 0 where none is
+abbrev pub first : List Row → ℕ
+first [] = 0
+first (r ∷ rs) = cond (r .given) (r .number) (first rs)
 
--- the rows stand in the order of their numbers, each of which is over this one
-abbrev pub ascending : ℕ → List Row → Bool
-ascending n [] = true
-ascending n (r ∷ rs) = ltb n (r .number) && ascending (r .number) rs
-
--- a call answers with a refusal's number, or with 0 where it does not refuse: by these rows, exactly when one is given, and a refusal
--- leaves all untouched
+-- a call answers with a refusal's number, or with 0 where it does not refuse: by these rows, which stand in the order in which refusals are
+-- given, exactly when one of them is given; and a refusal leaves all untouched
 pub record Refuses (n : ℕ) (rows : List Row) (untouched : Type 0) : Type 0 where
-  pub ordered : ascending 0 rows ≡ true
-  pub exact : n ≡ smallest rows
+  pub ordered : ranked (map (λ (r : Row). r .number) rows) ≡ true
+  pub exact : n ≡ first rows
   pub kept : (n ≡ 0 → ⊥) → untouched
 
 -- ---- `sender::send`: rows 1 to 8
@@ -128,7 +124,7 @@ Stepping = (recording : List ℕ) (place : ℕ) (lost : Bool) (s : Reader) (voic
     → Refuses (walk-list.numberIn (r .answer)) (steppingRows recording place s voice lsd)
     ((r .reader ≡ s) × (r .place ≡ place) × (r .lost ≡ lost) × (v ≡ voice) × (d ≡ lsd))
 
--- ---- `sender::read_preset`: row 11; `sender::write_preset`: row 1. Neither is lent anything or gives back a state that it took
+-- ---- `presets::read_preset`: row 11; `presets::write_preset`: row 1. Neither is lent anything or gives back a state that it took
 abbrev pub ReadingPreset : Type 0
 ReadingPreset = (bits : ℕ) (r : PresetRead) → r ≡ presetRead bits
     → Refuses (presetNumber (r .answer)) (row 11 (not (isPreset bits)) ∷ []) (Unit {0})

@@ -9,41 +9,41 @@ use lib.Dec.{eqb}
 use lib.ListN.{length, take, drop, replicate}
 use lib.Bits.{bitXor}
 use Rattle.bits.specs.Bits.{bitsOf, lowBits, number, octets}
-use Rattle.bits.specs.Crc.{blockCrcOf}
+use Rattle.crc.specs.Crc.{blockCrcOf}
 use Rattle.bas.specs.Words as bas
 use Rattle.bas.specs.Reading.{weight, readingOf}
 use Rattle.bas.specs.declared.Word.the-variants.{Code}
-use Rattle.modes.specs.Codes.{neutral, written, audioAttribute, audioOff, lsdOff}
 use Rattle.modes.specs.Numbers.{following}
 use Rattle.modes.specs.Owners.{heldBy, bitsPerFrame}
-use Rattle.modes.specs.Carried.{openingOf}
-use Rattle.modes.specs.Commands.{mode, commandOf, offered}
+use Rattle.modes.specs.Modes.{audioOff, off, mode}
 use Rattle.modes.specs.declared.Mode.{Mode}
-use Rattle.modes.specs.declared.Command.{Command}
-use Rattle.modes.specs.declared.Command.the-variants.{Neutral, SetAudio, SetLsd, NoEffect}
 use Rattle.modes.specs.declared.Owner.{Owner}
 use Rattle.modes.specs.declared.Owner.the-variants.{Voice, Lsd}
-use Rattle.slots.specs.Slots.{standing}
+use Rattle.codes.specs.Codes.{neutral, written, audioAttribute}
+use Rattle.codes.specs.Commands.{commandOf, offered}
+use Rattle.codes.specs.declared.Command.{Command}
+use Rattle.codes.specs.declared.Command.the-variants.{Neutral, SetAudio, SetLsd, NoEffect}
+use Rattle.slots.specs.Slots.{standing, dueAfter, slotOf, dueOf}
 use Rattle.slots.specs.Readings.{readingIn}
 use Rattle.slots.specs.declared.Due.{Due}
-use Rattle.slots.specs.declared.Due.the-variants.{Plain, AnItem}
+use Rattle.slots.specs.declared.Due.the-variants.{Plain, AnItem, N, Words}
 use Rattle.frame.specs.Block.{blockOf}
-use Rattle.sender.specs.State as sending
-use Rattle.sender.specs.State.{itemDue}
-use Rattle.sender.specs.Plans.{dueNumber}
+use Rattle.control.specs.State as sending
+use Rattle.control.specs.State.{wordDue}
 use Rattle.sender.specs.Step.{headerFor}
-use Rattle.sender.specs.declared.Sender.{Sender}
-use Rattle.sender.specs.declared.Answer.{Answer}
-use Rattle.sender.specs.declared.Answer.the-variants.{Sent, Held, Refused}
-use Rattle.reader.specs.State.{unknown, known, slotOf, dueOf, stateInRange, freshIn}
-use Rattle.reader.specs.Signs.{signsOf}
+use Rattle.control.specs.declared.Sender.{Sender}
+use Rattle.control.specs.declared.Answer.{Answer}
+use Rattle.control.specs.declared.Answer.the-variants.{Sent, Held, Refused}
+use Rattle.track.specs.State.{unknown, known, stateInRange, freshIn}
+use Rattle.track.specs.Signs.{signsOf}
+use Rattle.track.specs.Step.{stepOf}
 use Rattle.reader.specs.Step as reading
-use Rattle.reader.specs.declared.Reader.{Reader}
-use Rattle.reader.specs.declared.Report.{Report}
+use Rattle.track.specs.declared.Reader.{Reader}
+use Rattle.track.specs.declared.Report.{Report}
 use Rattle.reader.specs.declared.Outcome.{Outcome}
 use Rattle.reader.specs.declared.Answer.the-variants.{Block}
-use Rattle.reader.specs.declared.Standing.the-variants.{Read}
-use Rattle.reader.specs.declared.Verdict.the-variants.{None, Good}
+use Rattle.track.specs.declared.Standing.the-variants.{Read}
+use Rattle.track.specs.declared.Verdict.the-variants.{None, Good}
 use Rattle.lesson.specs.Demand1.{held, plain}
 use Rattle.lesson.specs.Session.{Turn, turned, after, accepted, Entry, log, blockSent, entryOf}
 
@@ -79,14 +79,22 @@ chosenBy (SetAudio v) audio = v
 chosenBy (SetLsd v) audio = audio
 chosenBy NoEffect audio = audio
 
--- what one accepted call leaves to the next: the next block's number, the remainder of the block that was written, and, unless the word
--- was an item, the mode and the item due by that word. Only an offered command that is neither held nor an item changes what is chosen
+-- the mode that a word leaves, by what was due: only a plain word is a command
+abbrev pub commanded : Due → ℕ → Mode → Mode
+commanded Plain word m = offered (commandOf word) m
+commanded AnItem word m = m
+commanded N word m = m
+commanded (Words left) word m = m
+
+-- what one accepted call leaves to the next: the next block's number, the remainder of the block that was written, the mode by the word
+-- that went, and the word due after it, by the rule of the slots. Only an offered command that is neither held nor an item changes what is
+-- chosen
 pub record GoesOn (e : Entry) (s : Sender) : Type 0 where
   pub number : s .block ≡ following (e .found .block)
   pub remainder : s .remainder ≡ blockCrcOf (blockSent e)
-  pub mode : s .mode ≡ cond (itemDue (e .found)) (e .found .mode) (offered (commandOf (wordOf e)) (e .found .mode))
+  pub mode : s .mode ≡ commanded (wordDue (e .found)) (wordOf e) (e .found .mode)
   pub chosen : s .chosen ≡ cond (plain (e .found) (e .turn .call)) (chosenBy (commandOf (e .turn .call .code)) (e .found .chosen)) (e .found .chosen)
-  pub due : s .due ≡ cond (itemDue (e .found)) 0 (dueNumber (openingOf (wordOf e)))
+  pub due : wordDue s ≡ dueAfter (wordDue (e .found)) (Code (wordOf e))
 
 -- block after block: each is answered by what went, is laid down, and finds what the one before left
 abbrev pub BlockAfterBlock : Sender → List Entry → Type 0
@@ -98,10 +106,6 @@ abbrev pub OctetsLaidDown : Type 0
 OctetsLaidDown = (s : Sender) (xs : List Turn) → BlockAfterBlock s (log s xs)
 
 -- ---- in step
--- the word due at the sender
-abbrev pub wordDue : Sender → Due
-wordDue s = cond (itemDue s) AnItem Plain
-
 -- the odd-frame first bits sent since block 1 of this multiframe, before this block
 abbrev pub sentSince : ℕ → List Bool
 sentSince block = take (block - 1) (false ∷ false ∷ true ∷ false ∷ true ∷ true ∷ false ∷ false ∷ [])
@@ -135,7 +139,7 @@ pub record Agrees (s : Sender) (r : Reader) : Type 0 where
 
 -- ---- what a reader in step hands back of a block that arrives unharmed
 abbrev pub readerAfter : Reader → Entry → Reader
-readerAfter r e = (reading.stepOf r (signsOf (blockSent e))) .state
+readerAfter r e = (stepOf r (signsOf (blockSent e))) .state
 
 -- how many bits of a stream's buffer count: twice its bits per frame
 abbrev pub counting : Owner → Mode → ℕ
@@ -203,7 +207,7 @@ pub record Waits (r : Reader) : Type 0 where
 
 -- a fresh reader waits
 abbrev pub FreshWaits : Type 0
-FreshWaits = Waits (freshIn (mode audioOff lsdOff))
+FreshWaits = Waits (freshIn off)
 
 -- how many blocks there are up to block 6 of the first multiframe that a reader hears whole
 abbrev pub untilSix : ℕ → ℕ
@@ -220,14 +224,14 @@ readerOn zero r es = r
 readerOn (suc n) r [] = r
 readerOn (suc n) r (e ∷ es) = readerOn n (readerAfter r e) es
 
--- a reader that begins to read at any block knows its place after so many, where no item is due then; its mode is still the one that it
+-- a reader that begins to read at any block knows its place after so many, where a plain word is due then; its mode is still the one that it
 -- began with, since it read no word
 abbrev pub FindsPlace : Type 0
 FindsPlace = (s : Sender) (r : Reader) (xs : List Turn) → sending.stateInRange s ≡ true → EightBits xs → Waits r
     → (let n = untilSix (s .block .0) in
     let s₁ = senderOn n s (log s xs) in
     let r₁ = readerOn n r (log s xs) in
-    n ≤ length (log s xs) → itemDue s₁ ≡ false → Placed s₁ r₁ × (r₁ .mode ≡ r .mode))
+    n ≤ length (log s xs) → wordDue s₁ ≡ Plain → Placed s₁ r₁ × (r₁ .mode ≡ r .mode))
 
 -- so it is in step if it missed no command
 abbrev pub ComesIntoStep : Type 0
@@ -235,10 +239,10 @@ ComesIntoStep = (s : Sender) (r : Reader) (xs : List Turn) → sending.stateInRa
     → (let n = untilSix (s .block .0) in
     let s₁ = senderOn n s (log s xs) in
     let r₁ = readerOn n r (log s xs) in
-    n ≤ length (log s xs) → itemDue s₁ ≡ false → s₁ .mode ≡ r .mode → InStep s₁ r₁)
+    n ≤ length (log s xs) → wordDue s₁ ≡ Plain → s₁ .mode ≡ r .mode → InStep s₁ r₁)
 
 -- and one that missed commands is in step after neutral
 abbrev pub JoinsAtNeutral : Type 0
 JoinsAtNeutral = (s : Sender) (r : Reader) (x : Turn) → x .call .code < 256 → accepted ((turned s x) .outcome .answer) ≡ true
     → (let e = entryOf s x in
-    Placed s r → itemDue s ≡ false → wordOf e ≡ neutral → InStep (after s x) (readerAfter r e))
+    Placed s r → wordDue s ≡ Plain → wordOf e ≡ neutral → InStep (after s x) (readerAfter r e))

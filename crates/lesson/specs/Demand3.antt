@@ -5,14 +5,16 @@ use mathlib.Core.List.{List, [], _∷_}
 use mathlib.Core.Logic.{_⊎_}
 use Prim.Native.Nat.{ℕ, zero, suc}
 use lib.ListN.{length}
-use Rattle.modes.specs.Codes.{written, audioAttribute, audioOff}
-use Rattle.sender.specs.State.{itemDue, sounding}
+use Rattle.modes.specs.Modes.{audioOff}
+use Rattle.codes.specs.Codes.{written, audioAttribute}
+use Rattle.control.specs.State.{wordDue, sounding}
 use Rattle.sender.specs.Step.{blockFor}
-use Rattle.sender.specs.declared.Sender.{Sender}
-use Rattle.sender.specs.declared.Call.{Call}
-use Rattle.sender.specs.declared.Answer.the-variants.{Held}
+use Rattle.control.specs.declared.Sender.{Sender}
+use Rattle.control.specs.declared.Call.{Call}
+use Rattle.control.specs.declared.Answer.the-variants.{Held}
+use Rattle.slots.specs.declared.Due.the-variants.{Plain}
 use Rattle.slots.specs.declared.Reading.the-variants.{Mended}
-use Rattle.reader.specs.declared.Reader.{Reader}
+use Rattle.track.specs.declared.Reader.{Reader}
 use Rattle.reader.specs.declared.Outcome.{Outcome}
 use Rattle.lesson.specs.Demand2.{answerTo, InStep, readerAfter, HandedBack, EightBits}
 use Rattle.lesson.specs.Session.{Turn, Left, turned, after, Allowed, Entry, log}
@@ -44,10 +46,10 @@ abbrev pub MuteStaysSet : List Turn → Type 0
 MuteStaysSet [] = Unit {0}
 MuteStaysSet (x ∷ xs) = (x .call .mute ≡ true) × MuteStaysSet xs
 
--- mute's own "audio off" has gone out as a command, never as an item: none was due, mute was set, the offered code was held for it, and the
+-- mute's own "audio off" has gone out as a command, never as an item: a plain word was due, mute was set, the offered code was held for it, and the
 -- block that was written is the one that demand 2 lays down for the word "audio off"
 pub record MuteGone (e : Entry) : Type 0 where
-  pub command : itemDue (e .found) ≡ false
+  pub command : wordDue (e .found) ≡ Plain
   pub muted : e .turn .call .mute ≡ true
   pub held : answerTo e ≡ Held
   pub octets : (turned (e .found) (e .turn)) .line

@@ -10,14 +10,14 @@ use denote.Ref.{now}
 use Rattle.text.specs.Over.{Written}
 use Rattle.search.specs.Finding.{searchOf}
 use Rattle.search.specs.declared.Found.the-variants.{Place}
-use Rattle.sender.specs.State as sender
+use Rattle.control.specs.State as sender
 use Rattle.presets.specs.Presets.{isPreset, presetRead, presetWritten}
-use Rattle.sender.specs.declared.Sender.{Sender}
-use Rattle.sender.specs.declared.Call.{Call}
-use Rattle.reader.specs.State as reader
+use Rattle.control.specs.declared.Sender.{Sender}
+use Rattle.control.specs.declared.Call.{Call}
+use Rattle.track.specs.State as reader
 use Rattle.reader.specs.Refusals as reader-list
 use Rattle.reader.specs.Step as reading
-use Rattle.reader.specs.declared.Reader.{Reader}
+use Rattle.track.specs.declared.Reader.{Reader}
 use Rattle.reader.specs.declared.Outcome as read
 use Rattle.recording.specs.Refusals as walk-list
 use Rattle.recording.specs.Walk.{stepAt, lookAt, voiceAt, lsdAt}
@@ -28,15 +28,16 @@ use Rattle.walk.specs.declared.Onward.{Onward}
 use Rattle.lines.specs.Listing.{numberLine, listingOf}
 use Rattle.card.specs.Sending.{SendTold}
 use Rattle.card.specs.Reading.{ReadTold}
-use Rattle.card.specs.Walking.{searchAnswerOf, StepTold}
+use Rattle.answers.specs.Answers.{searchAnswerOf}
+use Rattle.card.specs.Walking.{StepTold}
 use Rattle.card.specs.Presets.{presetOutcomeOf, presetBitsOf}
-use Rattle.card.specs.declared.SendAnswer.{SendAnswer}
+use Rattle.answers.specs.declared.SendAnswer.{SendAnswer}
 use Rattle.card.specs.declared.ReadOutcome.{ReadOutcome}
-use Rattle.card.specs.declared.SearchAnswer.{SearchAnswer}
+use Rattle.answers.specs.declared.SearchAnswer.{SearchAnswer}
 use Rattle.card.specs.declared.StepOutcome.{StepOutcome}
 use Rattle.card.specs.declared.PresetOutcome.{PresetOutcome}
 use Rattle.card.specs.declared.PresetBits.{PresetBits}
-use Rattle.lesson.specs.Demand1.{Row, row, smallest, Refuses, held, sendingRows, readingRows, searchingRows, steppingRows}
+use Rattle.lesson.specs.Demand1.{Row, row, first, Refuses, held, sendingRows, readingRows, searchingRows, steppingRows}
 
 -- ---- `reader::look`: rows 1 and 2, for it is lent no buffers
 abbrev pub lookingRows : Reader → List ℕ → List Row
@@ -120,11 +121,11 @@ WritingPresetInC = (s : Sender) (r : PresetBits) → r ≡ presetBitsOf (presetW
 -- search is given
 pub record Lists (recording text : List ℕ) (r : ℕ) (t : List ℕ) : Type 0 where
   -- line 1 is "none" and the refusal number, and then nothing more
-  pub none : (smallest (searchingRows recording 0) ≡ 0 → ⊥) → listingOf recording ≡ numberLine "none " (smallest (searchingRows recording 0))
+  pub none : (first (searchingRows recording 0) ≡ 0 → ⊥) → listingOf recording ≡ numberLine "none " (first (searchingRows recording 0))
   -- or "found" and the place; and the last line is the octets left
-  pub begins : smallest (searchingRows recording 0) ≡ 0
+  pub begins : first (searchingRows recording 0) ≡ 0
       → (p : ℕ) × (rest : List ℕ) × (searchOf recording 0 ≡ Place p) × (listingOf recording ≡ numberLine "found " p ++ rest)
-  pub ends : smallest (searchingRows recording 0) ≡ 0 → (done : List ℕ) × (left : ℕ) × (listingOf recording ≡ done ++ numberLine "left " left)
+  pub ends : first (searchingRows recording 0) ≡ 0 → (done : List ℕ) × (left : ℕ) × (listingOf recording ≡ done ++ numberLine "left " left)
   -- a text that is long enough holds it whole and keeps the rest; a shorter one holds what fits, and one more than its length is answered
   pub whole : length (listingOf recording) ≤ length text
       → (r ≡ length (listingOf recording)) × (t ≡ listingOf recording ++ drop (length (listingOf recording)) text)

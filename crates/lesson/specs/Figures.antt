@@ -5,14 +5,14 @@ use mathlib.Core.List.{List, [], _∷_, _++_, map}
 use Prim.Native.Nat.{ℕ}
 use lib.ListN.{replicate, take, drop}
 use Rattle.bits.specs.Bits.{number}
-use Rattle.bits.specs.Crc.{blockCrcOf}
+use Rattle.crc.specs.Crc.{blockCrcOf}
 use Rattle.bas.specs.Words.{checkOf, wordBits, lineOrder}
-use Rattle.modes.specs.Codes.{written, audioAttribute, audioOff}
-use Rattle.modes.specs.Commands.{mode}
-use Rattle.sender.specs.Refusals.{numberIn}
+use Rattle.modes.specs.Modes.{audioOff, mode}
+use Rattle.codes.specs.Codes.{written, audioAttribute}
+use Rattle.control.specs.Refusals.{numberIn}
 use Rattle.sender.specs.Step.{outcomeOf}
-use Rattle.sender.specs.declared.Sender.{Sender}
-use Rattle.sender.specs.declared.Call.{Call}
+use Rattle.control.specs.declared.Sender.{Sender}
+use Rattle.control.specs.declared.Call.{Call}
 
 -- what the definitions give, and what document 01 says
 pub record Figure : Type 0 where

@@ -7,17 +7,19 @@ use lib.ListN.{length}
 use Rattle.bits.specs.Bits.{octets}
 use Rattle.bas.specs.declared.Word.the-variants.{Code}
 use Rattle.slots.specs.Readings.{readingIn, readingKind, readingCode}
-use Rattle.sender.specs.declared.Sender.{Sender}
-use Rattle.reader.specs.Parts.{standingNumber, verdictNumber}
-use Rattle.reader.specs.declared.Reader.{Reader}
-use Rattle.reader.specs.declared.Standing.the-variants.{Read}
-use Rattle.reader.specs.declared.Verdict.the-variants.{None, Good}
-use Rattle.card.specs.Sending.{sendAnswerOf, SendTold}
+use Rattle.control.specs.State.{wordDue}
+use Rattle.control.specs.declared.Sender.{Sender}
+use Rattle.track.specs.Parts.{standingNumber, verdictNumber}
+use Rattle.track.specs.declared.Reader.{Reader}
+use Rattle.track.specs.declared.Standing.the-variants.{Read}
+use Rattle.track.specs.declared.Verdict.the-variants.{None, Good}
+use Rattle.answers.specs.Answers.{sendAnswerOf}
+use Rattle.card.specs.Sending.{SendTold}
 use Rattle.card.specs.Reading.{ReadTold}
 use Rattle.card.specs.declared.ReadOutcome.{ReadOutcome}
-use Rattle.card.specs.declared.SendAnswer.{SendAnswer}
+use Rattle.answers.specs.declared.SendAnswer.{SendAnswer}
 use Rattle.lesson.specs.Session.{Turn, Left, Allowed, Entry, blockSent}
-use Rattle.lesson.specs.Demand2.{wordDue, wordOf, Agrees, readerAfter, voiceBits, lsdBits, Back}
+use Rattle.lesson.specs.Demand2.{wordOf, Agrees, readerAfter, voiceBits, lsdBits, Back}
 use Rattle.lesson.specs.Demand3.{Alike}
 use Rattle.lesson.specs.EntryPoints.{callInC}
 

@@ -8,7 +8,7 @@ use Rattle.search.specs.Finding.{searchOf}
 use Rattle.search.specs.declared.Found.{Found}
 use Rattle.search.specs.declared.Found.the-variants.{Place}
 use Rattle.sender.specs.Step.{Told}
-use Rattle.sender.specs.declared.Sender.{Sender}
+use Rattle.control.specs.declared.Sender.{Sender}
 use Rattle.lesson.specs.Session.{Turn, Left, accepted}
 use Rattle.lesson.specs.Recordings.{Aligned}
 

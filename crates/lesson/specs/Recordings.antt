@@ -5,17 +5,18 @@ use mathlib.Core.Bool.{Bool, true, false}
 use mathlib.Core.List.{List, [], _∷_, _++_}
 use Prim.Native.Nat.{ℕ, zero, suc, _+_, _≤_, _<_}
 use lib.ListN.{length, getD, drop}
-use Rattle.bits.specs.Bits.{odd}
+use Rattle.bits.specs.Bits.{scBit}
 use Rattle.search.specs.Finding.{searchOf}
 use Rattle.search.specs.declared.Found.the-variants.{Place, Refused}
-use Rattle.search.specs.declared.Refusal.the-variants.{NoPlace}
-use Rattle.sender.specs.State as sending
-use Rattle.sender.specs.State.{itemDue}
-use Rattle.sender.specs.declared.Sender.{Sender}
-use Rattle.reader.specs.State.{stateInRange}
+use Rattle.refusals.specs.declared.Refusal.the-variants.{NoPlace}
+use Rattle.control.specs.State as sending
+use Rattle.slots.specs.declared.Due.the-variants.{Plain}
+use Rattle.control.specs.State.{wordDue}
+use Rattle.control.specs.declared.Sender.{Sender}
+use Rattle.track.specs.State.{stateInRange}
 use Rattle.reader.specs.Step as reading
-use Rattle.reader.specs.declared.Reader.{Reader}
-use Rattle.reader.specs.declared.Report.{Report}
+use Rattle.track.specs.declared.Reader.{Reader}
+use Rattle.track.specs.declared.Report.{Report}
 use Rattle.reader.specs.declared.Answer as read
 use Rattle.reader.specs.declared.Outcome.{Outcome}
 use Rattle.recording.specs.Walk.{stepAt, lookAt, voiceAt, lsdAt}
@@ -26,15 +27,15 @@ use Rattle.lesson.specs.Demand2.{InStep, Waits, EightBits, readerAfter, 
 
 -- ---- what a search answers, in 01's own words
 -- the SC bit of the octet at an offset
-abbrev pub scBit : List ℕ → ℕ → Bool
-scBit part offset = odd (getD part offset 0)
+abbrev pub scAt : List ℕ → ℕ → Bool
+scAt part offset = scBit (getD part offset 0)
 
 -- SC has 0011011 at offsets 1-7, 1 at 81, 0011011 at 161-167, all 168 octets inside
 pub record Aligned (part : List ℕ) : Type 0 where
-  pub first : scBit part 1 ∷ scBit part 2 ∷ scBit part 3 ∷ scBit part 4 ∷ scBit part 5 ∷ scBit part 6 ∷ scBit part 7 ∷ []
+  pub first : scAt part 1 ∷ scAt part 2 ∷ scAt part 3 ∷ scAt part 4 ∷ scAt part 5 ∷ scAt part 6 ∷ scAt part 7 ∷ []
       ≡ false ∷ false ∷ true ∷ true ∷ false ∷ true ∷ true ∷ []
-  pub one : scBit part 81 ≡ true
-  pub second : scBit part 161 ∷ scBit part 162 ∷ scBit part 163 ∷ scBit part 164 ∷ scBit part 165 ∷ scBit part 166 ∷ scBit part 167 ∷ []
+  pub one : scAt part 81 ≡ true
+  pub second : scAt part 161 ∷ scAt part 162 ∷ scAt part 163 ∷ scAt part 164 ∷ scAt part 165 ∷ scAt part 166 ∷ scAt part 167 ∷ []
       ≡ false ∷ false ∷ true ∷ true ∷ false ∷ true ∷ true ∷ []
   pub inside : 168 ≤ length part
 
@@ -123,4 +124,4 @@ WalkComesIntoStep = (s : Sender) (r : Reader) (xs : List Turn) (before more : Li
     let n = untilSix (s .block .0) in
     let s₁ = senderOn n s (log s xs) in
     let r₁ = walkedOn n recording (length before) false r in
-    length recording ≤ 65536 → n ≤ length (log s xs) → itemDue s₁ ≡ false → s₁ .mode ≡ r .mode → InStep s₁ r₁)
+    length recording ≤ 65536 → n ≤ length (log s xs) → wordDue s₁ ≡ Plain → s₁ .mode ≡ r .mode → InStep s₁ r₁)

@@ -16,18 +16,17 @@ use Rattle.text.specs.Digits.{hexOf}
 use Rattle.text.specs.Words.{textOf}
 use Rattle.text.proofs.Decimal.{decimal-three, decimal-five}
 use Rattle.text.proofs.OverLaws.{written-none, written-then, written-length}
-use Rattle.reader.specs.State.{stateInRange}
-use Rattle.reader.specs.declared.Reader.{Reader}
-use Rattle.reader.specs.declared.Report.{Report}
-use Rattle.reader.specs.declared.Standing.{Standing}
-use Rattle.reader.specs.declared.Standing.the-variants.{Waiting, Read, Lost}
-use Rattle.reader.specs.declared.Verdict.{Verdict}
-use Rattle.reader.specs.declared.Verdict.the-variants.{None, Good, Bad}
-use Rattle.reader.proofs.RangeLaws.{fresh-in-range}
-use Rattle.search.specs.Finding as finding
+use Rattle.track.specs.State.{stateInRange}
+use Rattle.track.specs.declared.Reader.{Reader}
+use Rattle.track.specs.declared.Report.{Report}
+use Rattle.track.specs.declared.Standing.{Standing}
+use Rattle.track.specs.declared.Standing.the-variants.{Waiting, Read, Lost}
+use Rattle.track.specs.declared.Verdict.{Verdict}
+use Rattle.track.specs.declared.Verdict.the-variants.{None, Good, Bad}
+use Rattle.track.proofs.RangeLaws.{fresh-in-range}
 use Rattle.search.specs.Finding.{searchOf}
-use Rattle.search.specs.declared.Refusal.{Refusal}
-use Rattle.search.specs.declared.Refusal.the-variants.{RecordingLength, NoPlace}
+use Rattle.refusals.specs.Numbers.{numberOf}
+use Rattle.refusals.proofs.RowLaws.{number-within}
 use Rattle.search.specs.declared.Found.{Found}
 use Rattle.search.proofs.PlaceLaws.{found-fits, found-small}
 use Rattle.recording.specs.Walk.{leftFrom, readAt, blockRead, foundAgain, answerHere, isLost, placeBy, lostBy, readerBy, steppedBy}
@@ -263,10 +262,6 @@ short recording small (suc n) place true s count h low =
 short recording small (suc n) place false s count h low =
     block-short recording small n (short recording small n) place s count h low (ltb (leftFrom recording place) 160) refl
 
-refusal-small : (why : Refusal) → finding.numberOf why < 100000
-refusal-small RecordingLength = omega arith
-refusal-small NoPlace = omega arith
-
 -- every listing fits into 16,384 octets
 pub listing-fits : (recording : List ℕ) → length (listingOf recording) ≤ 16384
 unfolding listingOf
@@ -278,7 +273,7 @@ listing-fits recording = go (searchOf recording 0) refl
         let small = found-small recording 0 p e in
         rw (length-append (numberLine "found " p) (linesFrom (length recording) recording p false begun 0))
         (omega (arith, number-length "found " 6 p (words-length .0) (omega (arith, f .2)), small, short recording small (length recording) p false begun 0 (omega (arith, f .2)) (omega arith)))
-    go (Found.Refused why) e = omega (arith, number-length "none " 5 (finding.numberOf why) (words-length .2) (refusal-small why))
+    go (Found.Refused why) e = omega (arith, number-length "none " 5 (numberOf why) (words-length .2) (omega (arith, number-within why .1)))
 
 pub listed-fits : {r : ℕ} {was text : List ℕ} (recording : List ℕ) → Written 0 (listingOf recording) was r text → 16384 ≤ length was → r ≤ length text
 listed-fits recording w room = omega (arith, w .place, listing-fits recording, written-length w)

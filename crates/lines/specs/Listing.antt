@@ -6,20 +6,19 @@ use Prim.Native.String.{String}
 use lib.ListN.{length}
 use Rattle.text.specs.Digits.{hexOf, decimalOf}
 use Rattle.text.specs.Words.{textOf}
-use Rattle.modes.specs.Codes.{audioOff, lsdOff}
-use Rattle.modes.specs.Commands.{mode}
+use Rattle.modes.specs.Modes.{off}
 use Rattle.slots.specs.declared.Reading.{Reading}
 use Rattle.slots.specs.declared.Reading.the-variants.{Mended, Item, MessageWord, ForbiddenItem, NotFollowed, Unreadable, NotRead}
-use Rattle.reader.specs.State.{freshIn}
-use Rattle.reader.specs.declared.Reader.{Reader}
-use Rattle.reader.specs.declared.Report.{Report}
-use Rattle.reader.specs.declared.Standing.{Standing}
-use Rattle.reader.specs.declared.Standing.the-variants.{Waiting, Read, Lost}
-use Rattle.reader.specs.declared.Verdict.{Verdict}
-use Rattle.reader.specs.declared.Verdict.the-variants.{None, Good, Bad}
+use Rattle.track.specs.State.{freshIn}
+use Rattle.track.specs.declared.Reader.{Reader}
+use Rattle.track.specs.declared.Report.{Report}
+use Rattle.track.specs.declared.Standing.{Standing}
+use Rattle.track.specs.declared.Standing.the-variants.{Waiting, Read, Lost}
+use Rattle.track.specs.declared.Verdict.{Verdict}
+use Rattle.track.specs.declared.Verdict.the-variants.{None, Good, Bad}
 use Rattle.search.specs.Finding as finding
 use Rattle.search.specs.declared.Found.{Found}
-use Rattle.recording.specs.Refusals.{numberOf}
+use Rattle.refusals.specs.Numbers.{numberOf}
 use Rattle.recording.specs.Walk.{answerHere, readerBy, placeBy, lostBy}
 use Rattle.recording.specs.declared.Answer.{Answer}
 use Rattle.recording.specs.declared.Answer.the-variants.{Block, Place, End, Refused}
@@ -86,12 +85,12 @@ linesFrom (suc n) recording place lost s count =
 
 -- the reader starts fresh
 abbrev pub begun : Reader
-begun = freshIn (mode audioOff lsdOff)
+begun = freshIn off
 
 -- line 1 is "found" and the place, or "none" and the refusal number, and then nothing more
 abbrev pub listingBy : Found → List ℕ → List ℕ
 listingBy (Found.Place p) recording = numberLine "found " p ++ linesFrom (length recording) recording p false begun 0
-listingBy (Found.Refused why) recording = numberLine "none " (finding.numberOf why)
+listingBy (Found.Refused why) recording = numberLine "none " (numberOf why)
 
 unfoldable pub listingOf : List ℕ → List ℕ
 listingOf recording = listingBy (finding.searchOf recording 0) recording

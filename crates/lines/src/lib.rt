@@ -4,20 +4,20 @@ ghost use mathlib.Core.Bool.{true, false};
 ghost use mathlib.Core.List.{_++_};
 ghost use Prim.Native.Nat.{_+_, _<_, _≤_};
 ghost use lib.ListN.{length};
-ghost use Rattle.reader.specs.State.{stateInRange};
+ghost use Rattle.track.specs.State.{stateInRange};
 ghost use Rattle.text.specs.Over.{Written};
 ghost use Rattle.text.specs.Digits.{decimalOf};
 ghost use Rattle.text.specs.Words.{textOf};
 ghost use Rattle.recording.specs.Walk.{answerHere, steppedBy};
 ghost use Rattle.lines.specs.Listing.{standingText, verdictText, codeText, blockLine, lineOf, isLast, countAfter, linesFrom, begun, listingOf};
-use reader::Reader;
-use reader::Report;
-use reader::Standing;
-use reader::Verdict;
 use recording::Answer;
 use recording::Stepped;
 use search::Found;
 use slots::Reading;
+use track::Reader;
+use track::Report;
+use track::Standing;
+use track::Verdict;
 
 fn put_standing(text: &mut [u8], at: usize, standing: Standing) -> usize
     ensures { λ r. ⌜ Written at (standingText standing) (now (text .entry)) r (now (text .exit)) ⌝ }
@@ -87,7 +87,7 @@ fn put_answer(text: &mut [u8], at: usize, count: usize, answer: Answer) -> usize
         Answer::Block(report) => put_block(text, at, count, report),
         Answer::Place(p) => put_line(text, at, b"found ", p),
         Answer::End(left) => put_line(text, at, b"left ", left),
-        Answer::Refused(why) => { put_line(text, at, b"none ", recording::number_of(why) as usize) }
+        Answer::Refused(why) => { put_line(text, at, b"none ", refusals::number_of(why) as usize) }
     }
 }
 
@@ -131,7 +131,7 @@ fn put_walk(text: &mut [u8], at: usize, recording: &[u8], start: usize) -> usize
     let mut a = at;
     let mut place = start;
     let mut lost = false;
-    let mut s = reader::fresh();
+    let mut s = track::fresh();
     let mut count = 0;
     for turn in 0..recording.len() {
         let stepped = step_on(recording, place, lost, s);
@@ -159,6 +159,6 @@ pub fn list(recording: &[u8], text: &mut [u8]) -> usize
             let at = put_line(text, 0, b"found ", p);
             put_walk(text, at, recording, p)
         }
-        Found::Refused(why) => put_line(text, 0, b"none ", search::number_of(why) as usize),
+        Found::Refused(why) => put_line(text, 0, b"none ", refusals::number_of(why) as usize),
     }
 }

@@ -1,23 +1,22 @@
--- Laws of modes: that a block number goes on within its eight, that listed values are small, that audio off overlaps nothing, what being in
--- range says, and what a code is as a command.
+-- Laws of modes: that a block number goes on within its eight, when two modes are one, that listed values are small, that audio off overlaps
+-- nothing, what is cleared, and what being in range says.
 use mathlib.Core.Path.{_≡_, refl, sym, ap, _∙_}
 use mathlib.Core.Bool.{Bool, true, false, false≢true, not, cond, _&&_}
-use Prim.Native.Nat.{ℕ, _+_, _/_, _<_}
+use Prim.Native.Nat.{ℕ, _+_, _<_}
 use native.Mathlib.Omega.{arith}
 use lib.Dec.{eqb, leb, ltb}
-use borrow.Author.Tests.{eqb-true, eqb-false, ne-eqb, not-true, ltb-true, ltb-false, le-leb}
+use borrow.Author.Tests.{eqb-true, eq-eqb, not-true, ltb-true, ltb-false, le-leb}
 use Rattle.bits.proofs.Every.{and-left, and-right, and-make}
-use Rattle.modes.specs.Codes.{attribute, value, audioAttribute, lsdAttribute, neutral, audioOff, lsdOff, listedAudio, listedLsd}
-use Rattle.modes.specs.Table.{audioTable, lsdTable, beside, audioPlaces, lsdPlaces}
 use Rattle.modes.specs.Numbers.{following}
+use Rattle.modes.specs.Table.{audioTable, lsdTable, beside, audioPlaces, lsdPlaces, listedAudio, listedLsd}
 use Rattle.modes.specs.Owners.{within, holds, heldBy, some, clash, overlaps}
-use Rattle.modes.specs.Commands.{mode, inRange, commandOf}
+use Rattle.modes.specs.Modes.{audioOff, lsdOff, off, withAudio, withLsd, mode, sameMode, givenWay, cleared, inRange}
 use Rattle.modes.specs.declared.BlockNumber.{BlockNumber}
 use Rattle.modes.specs.declared.Places.{Places}
 use Rattle.modes.specs.declared.Mode.{Mode}
-use Rattle.modes.specs.declared.Command.the-variants.{Neutral, SetAudio, SetLsd, NoEffect}
+use Rattle.modes.specs.declared.Owner.the-variants.{Voice, Lsd}
 use Rattle.modes.proofs.TableLaws.{audio-past, lsd-past, audio-shape}
-use Rattle.modes.proofs.OwnerLaws.{overlaps-is}
+use Rattle.modes.proofs.OwnerLaws.{clash-swapped, overlaps-two, overlaps-is}
 
 -- ---- a block is followed by one of the eight
 pub following-low : (b : BlockNumber) → within 1 8 ((following b) .0) ≡ true
@@ -29,6 +28,18 @@ following-low b = go (ltb (b .0) 8) refl
         let l = ltb-true (b .0) 8 e in
         and-make (leb 1 (b .0 + 1)) (leb (b .0 + 1) 8) (le-leb 1 (b .0 + 1) (omega arith)) (le-leb (b .0 + 1) 8 (omega arith))
     go false e = refl
+
+-- ---- two modes are one where their fields are
+pub same-mode : (m n : Mode) → sameMode m n ≡ true → m ≡ n
+same-mode m n t =
+    let audio = eqb (m .audio) (n .audio) in
+    let lsd = eqb (m .lsd) (n .lsd) in
+    let ea = eqb-true (m .audio) (n .audio) (and-left audio lsd t) in
+    let ed = eqb-true (m .lsd) (n .lsd) (and-right audio lsd t) in
+    λ i. record { audio = ea i; lsd = ed i }
+
+pub same-mode-self : (m : Mode) → sameMode m m ≡ true
+same-mode-self m = rw (eq-eqb (m .audio) (m .audio) refl, eq-eqb (m .lsd) (m .lsd) refl)
 
 -- ---- listed values are small
 pub audio-small : (v : ℕ) → listedAudio v ≡ true → v < 32
@@ -58,6 +69,15 @@ pub audio-off-apart : (d : ℕ) → overlaps (mode audioOff d) ≡ false
 unfolding audioPlaces audioTable beside
 audio-off-apart d = no-bits-apart audioOff d refl
 
+-- ---- what clearing room for a stream leaves: nothing changes where nothing overlaps
+pub cleared-voice : (m : Mode) → cleared Voice m ≡ cond (overlaps m) (withLsd m lsdOff) m
+unfolding cleared givenWay
+cleared-voice m = rw (overlaps-two m)
+
+pub cleared-lsd : (m : Mode) → cleared Lsd m ≡ cond (overlaps m) (withAudio m audioOff) m
+unfolding cleared givenWay
+cleared-lsd m = rw (overlaps-two m, clash-swapped (heldBy m Voice) (heldBy m Lsd))
+
 -- ---- in range, taken apart and put together
 pub record Ranged (m : Mode) : Type 0 where
   pub spoken : listedAudio (m .audio) ≡ true
@@ -85,66 +105,7 @@ pub in-range : (m : Mode) → Ranged m → inRange m ≡ true
 unfolding inRange
 in-range m r = rw (r .spoken, r .named, r .given, r .apart)
 
--- both off is in range, which antt computes
-pub off-ranged : Ranged (mode audioOff lsdOff)
+-- off is in range, which antt computes
+pub off-ranged : Ranged off
 unfolding audioPlaces audioTable lsdPlaces lsdTable beside overlaps clash some holds heldBy
 off-ranged = record { spoken = refl; named = refl; given = refl; apart = refl }
-
--- ---- what a code is as a command
-pub record AudioCode (code v : ℕ) : Type 0 where
-  pub kind : eqb (attribute code) audioAttribute ≡ true
-  pub is : v ≡ value code
-  pub listed : listedAudio v ≡ true
-  pub named : eqb v 0 ≡ false
-
-pub record LsdCode (code v : ℕ) : Type 0 where
-  pub kind : eqb (attribute code) lsdAttribute ≡ true
-  pub is : v ≡ value code
-  pub listed : listedLsd v ≡ true
-
-module _ (code v : ℕ) where
-  audio : Bool
-  audio = eqb (attribute code) audioAttribute && listedAudio (value code)
-
-  lsd : Bool
-  lsd = eqb (attribute code) lsdAttribute && listedLsd (value code)
-
-  pub audio-code : commandOf code ≡ SetAudio v → AudioCode code v
-  unfolding commandOf audio lsd
-  audio-code = go (eqb code neutral) audio lsd refl refl
-    where
-      go : (n a d : Bool) → eqb code neutral ≡ n → audio ≡ a
-          → cond n Neutral (cond a (SetAudio (value code)) (cond d (SetLsd (value code)) NoEffect)) ≡ SetAudio v → AudioCode code v
-      go true a d en ea e = let z : _≡_ {A = ℕ} 0 1 = cc in absurd (omega arith)
-      go false true d en ea e =
-          let same : v ≡ value code = cc in
-          let k = and-left (eqb (attribute code) audioAttribute) (listedAudio (value code)) ea in
-          let zero-attribute : code / 32 ≡ 0 = eqb-true (attribute code) audioAttribute k in
-          let named : code ≡ 0 → ⊥ = eqb-false code 0 en in
-          let small : code < 32 = omega arith in
-          let whole : value code ≡ code = omega arith in
-          record {
-            kind = k;
-            is = same;
-            listed = ap listedAudio same ∙ and-right (eqb (attribute code) audioAttribute) (listedAudio (value code)) ea;
-            named = ne-eqb v 0 (λ z. named (sym (same ∙ whole) ∙ z));
-          }
-      go false false true en ea e = let z : _≡_ {A = ℕ} 0 1 = cc in absurd (omega arith)
-      go false false false en ea e = let z : _≡_ {A = ℕ} 0 1 = cc in absurd (omega arith)
-
-  pub lsd-code : commandOf code ≡ SetLsd v → LsdCode code v
-  unfolding commandOf audio lsd
-  lsd-code = go (eqb code neutral) audio lsd refl
-    where
-      go : (n a d : Bool) → lsd ≡ d
-          → cond n Neutral (cond a (SetAudio (value code)) (cond d (SetLsd (value code)) NoEffect)) ≡ SetLsd v → LsdCode code v
-      go true a d ed e = let z : _≡_ {A = ℕ} 0 1 = cc in absurd (omega arith)
-      go false true d ed e = let z : _≡_ {A = ℕ} 0 1 = cc in absurd (omega arith)
-      go false false true ed e =
-          let same : v ≡ value code = cc in
-          record {
-            kind = and-left (eqb (attribute code) lsdAttribute) (listedLsd (value code)) ed;
-            is = same;
-            listed = ap listedLsd same ∙ and-right (eqb (attribute code) lsdAttribute) (listedLsd (value code)) ed;
-          }
-      go false false false ed e = let z : _≡_ {A = ℕ} 0 1 = cc in absurd (omega arith)

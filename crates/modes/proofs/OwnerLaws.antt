@@ -1,6 +1,6 @@
 -- Laws of places held: a place held by both is a bit or an SC octet common to both ranges, and a count of places is a count of each range.
 use mathlib.Core.Path.{_≡_, refl, sym, ap, ap₂, _∙_}
-use mathlib.Core.Bool.{Bool, true, false, false≢true, cond, _&&_, _||_, or-true}
+use mathlib.Core.Bool.{Bool, true, false, false≢true, cond, _&&_, _||_, and-comm, or-true, or-false}
 use mathlib.Core.Logic.{⊎-elim}
 use Prim.Native.Nat.{ℕ, zero, suc, _+_, _-_, _*_, _≤_, _<_, min}
 use native.Mathlib.Nat.{eq-or-lt-of-le, le-of-suc-le-suc, le-step, suc-mul, zero-mul}
@@ -11,10 +11,29 @@ use Rattle.bits.specs.Bits.{digit}
 use Rattle.bits.proofs.Every.{and-left, and-right, and-make}
 use Rattle.modes.specs.Numbers.{octet}
 use Rattle.modes.specs.Table.{audioPlaces, lsdPlaces}
-use Rattle.modes.specs.Owners.{within, holds, heldBy, some, count, clash, overlaps, bitsPerFrame}
+use Rattle.modes.specs.Owners.{within, rank, sameOwner, holds, heldBy, some, count, clash, overlaps, bitsPerFrame}
 use Rattle.modes.specs.declared.Mode.{Mode}
 use Rattle.modes.specs.declared.Places.{Places}
+use Rattle.modes.specs.declared.Owner.{Owner}
+use Rattle.modes.specs.declared.Owner.the-variants.{Service, Voice, Lsd, Nobody}
 use Rattle.modes.proofs.TableLaws.{Fit, audio-fit, lsd-fit, audio-shape, lsd-shape}
+
+-- ---- an owner is its number
+ranked : ℕ → Owner
+ranked zero = Service
+ranked (suc zero) = Voice
+ranked (suc (suc zero)) = Lsd
+ranked (suc (suc (suc n))) = Nobody
+
+ranked-rank : (o : Owner) → ranked (rank o) ≡ o
+unfolding ranked
+ranked-rank Service = refl
+ranked-rank Voice = refl
+ranked-rank Lsd = refl
+ranked-rank Nobody = refl
+
+pub same-owner : (o p : Owner) → sameOwner o p ≡ true → o ≡ p
+same-owner o p t = sym (ranked-rank o) ∙ ap ranked (eqb-true (rank o) (rank p) t) ∙ ranked-rank p
 
 -- ---- some number of 1 to n
 some-at : (n : ℕ) (p : ℕ → Bool) (k : ℕ) → 1 ≤ k → k ≤ n → p k ≡ true → some n p ≡ true
@@ -34,6 +53,10 @@ some-none (suc n) p h = ap₂ _||_ (h (suc n)) (some-none n p h)
 -- ---- two ranges
 abbrev pub meets : ℕ → ℕ → ℕ → ℕ → Bool
 meets a b c d = leb a b && leb c d && leb a d && leb c b
+
+-- octet bits or SC octets that both places have
+abbrev pub touching : Places → Places → Bool
+touching p q = meets (p .from) (p .to) (q .from) (q .to) || meets (p .first .0) (p .last .0) (q .first .0) (q .last .0)
 
 meets-make : (a b c d : ℕ) → a ≤ b → c ≤ d → a ≤ d → c ≤ b → meets a b c d ≡ true
 meets-make a b c d ab cd ad cb =
@@ -128,7 +151,7 @@ module _ (p q : Places) (fp : Fit p) (fq : Fit q) where
           ap (both p q o) (eqb-true bit 8 e) ∙ both-sc p q o ∙ apart (p .first .0) (p .last .0) (q .first .0) (q .last .0) o c
       at o bit false e = both-bit p q o bit e ∙ apart (p .from) (p .to) (q .from) (q .to) bit b
 
-  pub clash-is : clash p q ≡ (meets (p .from) (p .to) (q .from) (q .to) || meets (p .first .0) (p .last .0) (q .first .0) (q .last .0))
+  pub clash-is : clash p q ≡ touching p q
   unfolding clash both
   clash-is = go (meets (p .from) (p .to) (q .from) (q .to)) (meets (p .first .0) (p .last .0) (q .first .0) (q .last .0)) refl refl
     where
@@ -138,13 +161,18 @@ module _ (p q : Places) (fp : Fit p) (fq : Fit q) where
       go false true eb ec = channel-meets ec
       go false false eb ec = none-meets eb ec
 
--- of a mode's streams
-pub overlaps-is : (m : Mode)
-    → overlaps m
-    ≡ (meets (audioPlaces (m .audio) .from) (audioPlaces (m .audio) .to) (lsdPlaces (m .lsd) .from) (lsdPlaces (m .lsd) .to)
-    || meets (audioPlaces (m .audio) .first .0) (audioPlaces (m .audio) .last .0) (lsdPlaces (m .lsd) .first .0) (lsdPlaces (m .lsd) .last .0))
-unfolding overlaps heldBy
-overlaps-is m = clash-is (audioPlaces (m .audio)) (lsdPlaces (m .lsd)) (audio-fit (m .audio)) (lsd-fit (m .lsd))
+pub clash-swapped : (p q : Places) → clash p q ≡ clash q p
+unfolding clash
+clash-swapped p q = λ i. some 80 (λ (n : ℕ). some 8 (λ (bit : ℕ). and-comm (holds p (octet n) bit) (holds q (octet n) bit) i))
+
+-- of a mode's two streams
+pub overlaps-two : (m : Mode) → overlaps m ≡ clash (heldBy m Voice) (heldBy m Lsd)
+unfolding overlaps
+overlaps-two m = or-false _ ∙ or-false _
+
+pub overlaps-is : (m : Mode) → overlaps m ≡ touching (audioPlaces (m .audio)) (lsdPlaces (m .lsd))
+unfolding heldBy
+overlaps-is m = overlaps-two m ∙ clash-is (audioPlaces (m .audio)) (lsdPlaces (m .lsd)) (audio-fit (m .audio)) (lsd-fit (m .lsd))
 
 -- where they do not overlap, voice's octet bits end before data's begin
 pub voice-ends-first : (m : Mode) → overlaps m ≡ false → (audioPlaces (m .audio)) .to < (lsdPlaces (m .lsd)) .from

@@ -1,6 +1,4 @@
 pub mod Numbers
 pub mod Table
-pub mod Codes
 pub mod Owners
-pub mod Carried
-pub mod Commands
+pub mod Modes

@@ -1,5 +1,6 @@
 -- Document 01, 'Codes and bit places': whose each place of a frame is. A place is an octet number, 1 to 80, and a bit, 1 to 8.
 use mathlib.Core.Bool.{Bool, false, cond, _&&_, _||_}
+use mathlib.Core.List.{List, [], _∷_}
 use Prim.Native.Nat.{ℕ, zero, suc, _+_}
 use lib.Dec.{leb, eqb}
 use Rattle.bits.specs.Bits.{digit}
@@ -14,6 +15,26 @@ use Rattle.modes.specs.declared.Owner.the-variants.{Service, Voice, Lsd,
 -- n is one of a to b
 abbrev pub within : ℕ → ℕ → ℕ → Bool
 within a b n = leb a n && leb n b
+
+-- each owner by a number of its own
+abbrev pub rank : Owner → ℕ
+rank Service = 0
+rank Voice = 1
+rank Lsd = 2
+rank Nobody = 3
+
+-- the two are one owner
+abbrev pub sameOwner : Owner → Owner → Bool
+sameOwner o p = eqb (rank o) (rank p)
+
+-- the owners that are streams
+abbrev pub streams : List Owner
+streams = Voice ∷ Lsd ∷ []
+
+-- these owners but o
+abbrev pub without : Owner → List Owner → List Owner
+without o [] = []
+without o (p ∷ ps) = cond (sameOwner o p) (without o ps) (p ∷ without o ps)
 
 -- these places have the one of this octet and this bit among them; the service channel is bit 8
 unfoldable pub holds : Places → OctetNumber → ℕ → Bool
@@ -48,9 +69,19 @@ count (suc n) p = p (suc n) + count n p
 unfoldable pub clash : Places → Places → Bool
 clash p q = some 80 (λ (n : ℕ). some 8 (λ (bit : ℕ). holds p (octet n) bit && holds q (octet n) bit))
 
--- audio and data overlap
+-- one of these owners passes the test
+abbrev pub one : (Owner → Bool) → List Owner → Bool
+one test [] = false
+one test (o ∷ os) = test o || one test os
+
+-- some two of these owners do, as a pair
+abbrev pub two : (Owner → Owner → Bool) → List Owner → Bool
+two test [] = false
+two test (o ∷ os) = one (test o) os || two test os
+
+-- the streams of a mode overlap: some two of them clash
 unfoldable pub overlaps : Mode → Bool
-overlaps m = clash (heldBy m Voice) (heldBy m Lsd)
+overlaps m = two (λ (o p : Owner). clash (heldBy m o) (heldBy m p)) streams
 
 -- how many places of a frame are held
 unfoldable pub bitsPerFrame : Places → ℕ

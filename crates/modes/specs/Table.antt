@@ -1,5 +1,5 @@
 -- Document 01, 'Codes and bit places': the bit places that each audio and data value holds.
-use mathlib.Core.Bool.{true, false, cond}
+use mathlib.Core.Bool.{Bool, true, false, cond}
 use mathlib.Core.List.{List, [], _∷_}
 use Prim.Native.Nat.{ℕ}
 use lib.Dec.{eqb}
@@ -65,3 +65,10 @@ audioPlaces v = beside audioTable (notListed (octetBitsTo 0)) v
 
 unfoldable pub lsdPlaces : ℕ → Places
 lsdPlaces v = beside lsdTable (notListed (octetBitsFrom 8)) v
+
+-- the values that the two tables list
+abbrev pub listedAudio : ℕ → Bool
+listedAudio v = (audioPlaces v) .listed
+
+abbrev pub listedLsd : ℕ → Bool
+listedLsd v = (lsdPlaces v) .listed

@@ -1,13 +1,12 @@
-// Codes, the bit places that they hold, and modes (document 01, 'Codes and bit places', 'Slots' and 'Sending a block').
+// Frames, blocks and octets by number, the bit places of each audio and data value, and modes (document 01, 'What the unit carries' and
+// 'Codes and bit places').
 ghost use mathlib.Core.Path.{_≡_};
 ghost use mathlib.Core.Bool.{_&&_, _||_};
-ghost use lib.Dec.{leb, eqb};
+ghost use lib.Dec.{leb};
 ghost use Rattle.modes.specs.Numbers.{evenFrame, oddFrame, following};
 ghost use Rattle.modes.specs.Table.{audioPlaces, lsdPlaces};
-ghost use Rattle.modes.specs.Codes.{attribute, value, audioAttribute, lsdAttribute, listedAudio, listedLsd};
 ghost use Rattle.modes.specs.Owners.{holds, heldBy, ownerOf, overlaps, bitsPerFrame};
-ghost use Rattle.modes.specs.Carried.{carried, senderCarries, readerCarries, openingOf};
-ghost use Rattle.modes.specs.Commands.{inRange, commandOf, offered, followed};
+ghost use Rattle.modes.specs.Modes.{off, withAudio, withLsd, sameMode, turnedOff, givenWay, inRange};
 
 // The three numbers that are counted apart: a frame of a multiframe, 0 to 15; a block of it, 1 to 8; an octet of a frame, 1 to 80.
 pub struct FrameNumber(pub u8);
@@ -40,21 +39,6 @@ pub enum Owner {
     Voice,
     Lsd,
     Nobody,
-}
-
-// What a code makes of the words after it.
-pub enum Opening {
-    Nothing,
-    Item,
-    Message,
-}
-
-// What a code is as a command.
-pub enum Command {
-    Neutral,
-    SetAudio(u8),
-    SetLsd(u8),
-    NoEffect,
 }
 
 // From audio value to the octet bits it holds, 1 to w. 0 is none of them, and 8 says that the value is not listed.
@@ -113,7 +97,7 @@ const LSD: [[u8; 3]; 15] = [
 ];
 
 // The places of audio [v].
-fn audio_places(v: u8) -> Places
+pub fn audio_places(v: u8) -> Places
     ensures { λ r. ⌜ r ≡ audioPlaces v ⌝ }
 {
     if v < 32 {
@@ -138,7 +122,7 @@ fn audio_places(v: u8) -> Places
 }
 
 // The places of data [v].
-fn lsd_places(v: u8) -> Places
+pub fn lsd_places(v: u8) -> Places
     ensures { λ r. ⌜ r ≡ lsdPlaces v ⌝ }
 {
     if v < 15 {
@@ -187,6 +171,39 @@ pub fn next_block(block: BlockNumber) -> BlockNumber
         return BlockNumber(b + 1);
     }
     BlockNumber(1)
+}
+
+// Everything off: audio [31] and data [0].
+pub fn off() -> Mode
+    ensures { λ r. ⌜ r ≡ off ⌝ }
+{
+    Mode { audio: 31, lsd: 0 }
+}
+
+// A mode with another audio value, and with another data value.
+pub fn with_audio(mode: Mode, audio: u8) -> Mode
+    ensures { λ r. ⌜ r ≡ withAudio mode audio ⌝ }
+{
+    Mode {
+        audio: audio,
+        lsd: mode.lsd,
+    }
+}
+
+pub fn with_lsd(mode: Mode, lsd: u8) -> Mode
+    ensures { λ r. ⌜ r ≡ withLsd mode lsd ⌝ }
+{
+    Mode {
+        audio: mode.audio,
+        lsd: lsd,
+    }
+}
+
+// Whether two modes are one.
+pub fn same(a: Mode, b: Mode) -> bool
+    ensures { λ r. ⌜ r ≡ sameMode a b ⌝ }
+{
+    (a.audio == b.audio) & (a.lsd == b.lsd)
 }
 
 // What an owner holds under a mode.
@@ -254,13 +271,37 @@ fn touch(v: Places, d: Places) -> bool
     meet(v.from, v.to, d.from, d.to) | meet(v.first.0, v.last.0, d.first.0, d.last.0)
 }
 
-// Whether audio and data overlap.
+// Whether the streams overlap.
 pub fn overlap(mode: Mode) -> bool
     ensures { λ r. ⌜ r ≡ overlaps mode ⌝ }
 {
     let v = audio_places(mode.audio);
     let d = lsd_places(mode.lsd);
     touch(v, d)
+}
+
+// The mode with `stream` turned off.
+fn turn_off(stream: Owner, mode: Mode) -> Mode
+    ensures { λ r. ⌜ r ≡ turnedOff stream mode ⌝ }
+{
+    match stream {
+        Owner::Service => mode,
+        Owner::Voice => with_audio(mode, 31),
+        Owner::Lsd => with_lsd(mode, 0),
+        Owner::Nobody => mode,
+    }
+}
+
+// The mode with `other` turned off where it clashes with `stream`.
+pub fn give_way(stream: Owner, other: Owner, mode: Mode) -> Mode
+    ensures { λ r. ⌜ r ≡ givenWay stream other mode ⌝ }
+{
+    let kept = held_by(mode, stream);
+    let held = held_by(mode, other);
+    if touch(kept, held) {
+        return turn_off(other, mode);
+    }
+    mode
 }
 
 // How many bits of a frame an owner holds under a mode.
@@ -280,126 +321,4 @@ pub fn in_range(mode: Mode) -> bool
     let v = audio_places(mode.audio);
     let d = lsd_places(mode.lsd);
     v.listed & (mode.audio != 0) & d.listed & !touch(v, d)
-}
-
-// Whether a code is one of the audio codes of 01's list, or of its data codes. A table is laid out anew where it is read, so it is read only
-// for a code that it can list.
-fn is_audio(code: u8) -> bool
-    ensures { λ r. ⌜ r ≡ (eqb (attribute code) audioAttribute && listedAudio (value code)) ⌝ }
-{
-    if code / 32 != 0 {
-        return false;
-    }
-    let p = audio_places(code % 32);
-    p.listed
-}
-
-fn is_lsd(code: u8) -> bool
-    ensures { λ r. ⌜ r ≡ (eqb (attribute code) lsdAttribute && listedLsd (value code)) ⌝ }
-{
-    if code / 32 != 3 {
-        return false;
-    }
-    let p = lsd_places(code % 32);
-    p.listed
-}
-
-// Whether a code is carried when plain.
-fn is_carried(code: u8) -> bool
-    ensures { λ r. ⌜ r ≡ carried code ⌝ }
-{
-    let attribute = code / 32;
-    let value = code % 32;
-    is_audio(code)
-        | is_lsd(code)
-        | (code == 32)
-        | ((4 <= attribute) & (attribute <= 6))
-        | ((attribute == 7) & (((15 <= value) & (value <= 20)) | (value == 24)))
-}
-
-// Whether the sender carries a code when plain; whether the reader does.
-pub fn sender_carries(code: u8) -> bool
-    ensures { λ r. ⌜ r ≡ senderCarries code ⌝ }
-{
-    is_carried(code)
-}
-
-pub fn reader_carries(code: u8) -> bool
-    ensures { λ r. ⌜ r ≡ readerCarries code ⌝ }
-{
-    is_carried(code)
-}
-
-// What a code makes of the words after it.
-pub fn opening_of(code: u8) -> Opening
-    ensures { λ r. ⌜ r ≡ openingOf code ⌝ }
-{
-    if code / 32 == 7 {
-        let value = code % 32;
-        if value <= 23 {
-            return Opening::Item;
-        }
-        if value == 24 {
-            return Opening::Nothing;
-        }
-        return Opening::Message;
-    }
-    Opening::Nothing
-}
-
-// What a code is as a command.
-pub fn command_of(code: u8) -> Command
-    ensures { λ r. ⌜ r ≡ commandOf code ⌝ }
-{
-    if code == 0 {
-        return Command::Neutral;
-    }
-    if is_audio(code) {
-        return Command::SetAudio(code % 32);
-    }
-    if is_lsd(code) {
-        return Command::SetLsd(code % 32);
-    }
-    Command::NoEffect
-}
-
-// The mode that a command of the sender leaves.
-pub fn offer(command: Command, mode: Mode) -> Mode
-    ensures { λ r. ⌜ r ≡ offered command mode ⌝ }
-{
-    match command {
-        Command::Neutral => Mode { audio: 31, lsd: 0 },
-        Command::SetAudio(v) => Mode {
-            audio: v,
-            lsd: mode.lsd,
-        },
-        Command::SetLsd(v) => Mode {
-            audio: mode.audio,
-            lsd: v,
-        },
-        Command::NoEffect => mode,
-    }
-}
-
-// The mode that a command leaves at the reader, where one that overlaps the other stream turns that stream off.
-pub fn follow(command: Command, mode: Mode) -> Mode
-    ensures { λ r. ⌜ r ≡ followed command mode ⌝ }
-{
-    let next = offer(command, mode);
-    match command {
-        Command::Neutral => next,
-        Command::SetAudio(v) => {
-            if overlap(next) {
-                return Mode { audio: v, lsd: 0 };
-            }
-            next
-        }
-        Command::SetLsd(v) => {
-            if overlap(next) {
-                return Mode { audio: 31, lsd: v };
-            }
-            next
-        }
-        Command::NoEffect => next,
-    }
 }

@@ -12,25 +12,26 @@ use lib.ListN.{length, replicate, length-append, length-replicate}
 use Rattle.bits.proofs.Every.{and-left, and-right, everyBelow, below}
 use Rattle.modes.specs.Numbers.{octet}
 use Rattle.modes.specs.Table.{octetBitsFrom, notListed, lsdTable, lsdPlaces}
-use Rattle.modes.specs.Owners.{within, holds, heldBy, ownerOf}
+use Rattle.modes.specs.Owners.{within, sameOwner, holds, heldBy, ownerOf}
 use Rattle.modes.specs.declared.Mode.{Mode}
 use Rattle.modes.specs.declared.OctetNumber.{OctetNumber}
 use Rattle.modes.specs.declared.Places.{Places}
 use Rattle.modes.specs.declared.Owner.{Owner}
 use Rattle.modes.specs.declared.Owner.the-variants.{Service, Voice, Lsd, Nobody}
 use Rattle.modes.proofs.TableLaws.{beside-all, audio-fit, lsd-fit, audio-shape, lsd-shape}
-use Rattle.places.specs.Streams.{rank, same, count}
+use Rattle.modes.proofs.OwnerLaws.{same-owner}
+use Rattle.places.specs.Streams.{same, count}
 use Rattle.places.specs.Places.{row, rows}
 use Rattle.places.specs.Layout.{layoutOf, columnsBy, channelBy, rowBy, rowsBy, sc, inEights, Apart}
 use Rattle.places.specs.declared.Layout.{Layout}
-use Rattle.places.proofs.StreamLaws.{rank-inj, count-append, count-all, count-none}
+use Rattle.places.proofs.StreamLaws.{count-append, count-all, count-none}
 
 -- ---- octet bits 1 to 7: for each width and each first bit of data, a test that antt computes
 sameOwners : List Owner → List Owner → Bool
 sameOwners [] [] = true
 sameOwners [] (q ∷ qs) = false
 sameOwners (p ∷ ps) [] = false
-sameOwners (p ∷ ps) (q ∷ qs) = eqb (rank p) (rank q) && sameOwners ps qs
+sameOwners (p ∷ ps) (q ∷ qs) = sameOwner p q && sameOwners ps qs
 
 same-owners : (ps qs : List Owner) → sameOwners ps qs ≡ true → ps ≡ qs
 unfolding sameOwners
@@ -38,8 +39,8 @@ same-owners [] [] t = refl
 same-owners [] (q ∷ qs) t = absurd (false≢true t)
 same-owners (p ∷ ps) [] t = absurd (false≢true t)
 same-owners (p ∷ ps) (q ∷ qs) t =
-    ap₂ _∷_ (rank-inj p q (eqb-true (rank p) (rank q) (and-left (eqb (rank p) (rank q)) (sameOwners ps qs) t)))
-    (same-owners ps qs (and-right (eqb (rank p) (rank q)) (sameOwners ps qs) t))
+    ap₂ _∷_ (same-owner p q (and-left (sameOwner p q) (sameOwners ps qs) t))
+    (same-owners ps qs (and-right (sameOwner p q) (sameOwners ps qs) t))
 
 -- the owner of an octet bit, voice holding 1 to w and data f to 7
 columnOwner : ℕ → ℕ → ℕ → Owner

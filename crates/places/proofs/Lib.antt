@@ -1,4 +1,3 @@
 pub mod StreamLaws
 pub mod LayoutLaws
 pub mod CountLaws
-pub mod LengthLaws

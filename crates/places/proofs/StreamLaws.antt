@@ -7,37 +7,21 @@ use Prim.Native.Nat.{ℕ, zero, suc, _+_, _≤_, _<_}
 use native.Mathlib.Nat.{zero-add, suc-add, add-assoc, not-suc-le-zero, le-of-suc-le-suc}
 use native.Mathlib.Numerals.{one-add}
 use native.Mathlib.Omega.{arith}
-use lib.Dec.{eqb}
-use borrow.Author.Tests.{eqb-true}
 use lib.ListN.{length, getD, take, drop, replicate, length-append, length-take}
 use lib.Seq.{drop-drop, getD-drop, take-add}
+use Rattle.modes.specs.Owners.{sameOwner}
 use Rattle.modes.specs.declared.Owner.{Owner}
 use Rattle.modes.specs.declared.Owner.the-variants.{Service, Voice, Lsd, Nobody}
-use Rattle.places.specs.Streams.{Streams, rank, same, count, rest, fill, sort, nexts}
+use Rattle.modes.proofs.OwnerLaws.{same-owner}
+use Rattle.places.specs.Streams.{Streams, same, count, rest, fill, sort, nexts}
 
 -- ---- two owners are one, or not
-ranked : ℕ → Owner
-ranked zero = Service
-ranked (suc zero) = Voice
-ranked (suc (suc zero)) = Lsd
-ranked (suc (suc (suc n))) = Nobody
-
-ranked-rank : (o : Owner) → ranked (rank o) ≡ o
-unfolding ranked
-ranked-rank Service = refl
-ranked-rank Voice = refl
-ranked-rank Lsd = refl
-ranked-rank Nobody = refl
-
-pub rank-inj : (o p : Owner) → rank o ≡ rank p → o ≡ p
-rank-inj o p e = sym (ranked-rank o) ∙ ap ranked e ∙ ranked-rank p
-
 pub same-or : (o p : Owner) → (same o p ≡ 0) ⊎ ((same o p ≡ 1) × (o ≡ p))
 unfolding same
-same-or o p = go (eqb (rank o) (rank p)) refl
+same-or o p = go (sameOwner o p) refl
   where
-    go : (b : Bool) → eqb (rank o) (rank p) ≡ b → (_≡_ {A = ℕ} (cond b 1 0) 0) ⊎ ((_≡_ {A = ℕ} (cond b 1 0) 1) × (o ≡ p))
-    go true e = inr (refl, rank-inj o p (eqb-true _ _ e))
+    go : (b : Bool) → sameOwner o p ≡ b → (_≡_ {A = ℕ} (cond b 1 0) 0) ⊎ ((_≡_ {A = ℕ} (cond b 1 0) 1) × (o ≡ p))
+    go true e = inr (refl, same-owner o p e)
     go false e = inl refl
 
 pub same-self : (o : Owner) → same o o ≡ 1

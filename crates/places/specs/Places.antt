@@ -1,8 +1,6 @@
--- Document 01, 'Codes and bit places': the places of a frame in sending order, and how many octets a block and its buffers have.
-use mathlib.Core.Bool.{Bool, _&&_}
+-- Document 01, 'Codes and bit places': the places of a frame in sending order.
 use mathlib.Core.List.{List, [], _∷_, _++_}
 use Prim.Native.Nat.{ℕ, zero, suc}
-use lib.Dec.{eqb}
 use Rattle.modes.specs.Numbers.{octet}
 use Rattle.modes.specs.Owners.{ownerOf}
 use Rattle.modes.specs.declared.Mode.{Mode}
@@ -23,7 +21,3 @@ rows m (suc n) = rows m n ++ row m (octet (suc n))
 -- the 640 places of a frame
 unfoldable pub places : Mode → List Owner
 places m = rows m 80
-
--- a line block is 160 octets, a voice buffer 140, a data buffer 156
-unfoldable pub fitting : ℕ → ℕ → ℕ → Bool
-fitting line voice lsd = eqb line 160 && eqb voice 140 && eqb lsd 156

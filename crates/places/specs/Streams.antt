@@ -2,25 +2,17 @@
 use mathlib.Core.Bool.{Bool, true, cond}
 use mathlib.Core.List.{List, [], _∷_, _++_}
 use Prim.Native.Nat.{ℕ, zero, suc, _+_}
-use lib.Dec.{eqb}
 use lib.ListN.{getD, take, drop}
+use Rattle.modes.specs.Owners.{sameOwner}
 use Rattle.modes.specs.declared.Owner.{Owner}
-use Rattle.modes.specs.declared.Owner.the-variants.{Service, Voice, Lsd, Nobody}
 
 -- what each owner still has to send, in sending order
 abbrev pub Streams : Type 0
 Streams = Owner → List Bool
 
--- each owner by a number of its own
-abbrev pub rank : Owner → ℕ
-rank Service = 0
-rank Voice = 1
-rank Lsd = 2
-rank Nobody = 3
-
 -- 1 where the two are one owner, else 0
 unfoldable pub same : Owner → Owner → ℕ
-same o p = cond (eqb (rank o) (rank p)) 1 0
+same o p = cond (sameOwner o p) 1 0
 
 -- how many of the places are the owner's
 unfoldable pub count : Owner → List Owner → ℕ

@@ -1,6 +1,5 @@
 // The places of a frame: which stream owns each of them, as four numbers (document 01, 'Codes and bit places').
 ghost use mathlib.Core.Path.{_≡_};
-ghost use Rattle.places.specs.Places.{fitting};
 ghost use Rattle.places.specs.Layout.{layoutOf, inEights};
 use modes::Mode;
 use modes::Owner;
@@ -42,11 +41,4 @@ pub fn in_eights(p: Layout) -> bool
     ensures { λ r. ⌜ r ≡ inEights p ⌝ }
 {
     (p.first % 8 == 1) & (p.last % 8 == 0)
-}
-
-// A line block is 160 octets, a voice buffer 140, a data buffer 156.
-pub fn lengths_fit(line: usize, voice: usize, lsd: usize) -> bool
-    ensures { λ r. ⌜ r ≡ fitting line voice lsd ⌝ }
-{
-    (line == 160) & (voice == 140) & (lsd == 156)
 }

@@ -4,12 +4,12 @@ use mathlib.Core.Bool.{true}
 use Prim.Native.Nat.{_%_}
 use native.Mathlib.Omega.{arith}
 use borrow.Author.Tests.{eq-eqb}
-use Rattle.modes.specs.Codes.{written, lsdAttribute}
-use Rattle.modes.specs.Commands.{mode}
+use Rattle.modes.specs.Modes.{mode}
 use Rattle.modes.proofs.ModeLaws.{in-range}
-use Rattle.sender.specs.State.{stateInRange, freshWith}
-use Rattle.sender.specs.declared.Sender.{Sender}
-use Rattle.sender.proofs.RangeLaws.{kept, chosen-small, lsd-in-force-small}
+use Rattle.codes.specs.Codes.{written, lsdAttribute}
+use Rattle.control.specs.State.{stateInRange, freshWith}
+use Rattle.control.specs.declared.Sender.{Sender}
+use Rattle.control.proofs.RangeLaws.{kept, chosen-small, lsd-in-force-small}
 use Rattle.presets.specs.Presets.{presetOf, audioIn, lsdIn, isPreset, presetRead}
 use Rattle.presets.specs.declared.PresetAnswer.the-variants.{Read}
 

@@ -2,12 +2,12 @@
 use mathlib.Core.Bool.{Bool, cond, _&&_}
 use Prim.Native.Nat.{ℕ, _+_, _*_, _/_, _%_}
 use lib.Dec.{eqb}
-use Rattle.modes.specs.Codes.{written, lsdAttribute, audioOff, lsdOff}
-use Rattle.modes.specs.Commands.{mode, inRange}
-use Rattle.sender.specs.State.{stateInRange, freshWith}
-use Rattle.sender.specs.Refusals.{numberOf}
-use Rattle.sender.specs.declared.Sender.{Sender}
-use Rattle.sender.specs.declared.Refusal.the-variants.{BadState, NotAPreset}
+use Rattle.modes.specs.Modes.{audioOff, lsdOff, mode, inRange}
+use Rattle.codes.specs.Codes.{written, lsdAttribute}
+use Rattle.control.specs.State.{stateInRange, freshWith}
+use Rattle.refusals.specs.Numbers.{numberOf}
+use Rattle.control.specs.declared.Sender.{Sender}
+use Rattle.refusals.specs.declared.Refusal.the-variants.{BadState, NotAPreset}
 use Rattle.presets.specs.declared.PresetRead.{PresetRead}
 use Rattle.presets.specs.declared.PresetAnswer.{PresetAnswer}
 use Rattle.presets.specs.declared.PresetAnswer.the-variants.{Read, Unread}

@@ -1,9 +1,9 @@
 // Presets: a sender's chosen audio and data as sixteen bits (document 01, 'Preset').
 ghost use mathlib.Core.Path.{_≡_};
 ghost use Rattle.presets.specs.Presets.{isPreset, presetRead, presetWritten};
+use control::Sender;
 use modes::Mode;
-use sender::Refusal;
-use sender::Sender;
+use refusals::Refusal;
 
 pub enum PresetAnswer {
     Read,
@@ -40,8 +40,8 @@ pub fn read_preset(bits: u16) -> PresetRead
 {
     let audio = (bits / 2048) as u8;
     let lsd = (bits / 64 % 32) as u8;
-    let state = sender::fresh_with(audio);
-    let none = sender::fresh_with(31);
+    let state = control::fresh_with(audio);
+    let none = control::fresh_with(31);
     if is_preset(bits) {
         return PresetRead {
             answer: PresetAnswer::Read,
@@ -62,7 +62,7 @@ pub fn write_preset(s: Sender) -> PresetWritten
 {
     let chosen = s.chosen;
     let lsd = s.mode.lsd;
-    if sender::in_range(s) {
+    if control::in_range(s) {
         return PresetWritten::Bits((chosen as u16) * 2048 + (lsd as u16) * 64);
     }
     PresetWritten::Unwritten(Refusal::BadState)

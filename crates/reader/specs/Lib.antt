@@ -1,5 +1,2 @@
-pub mod State
-pub mod Signs
-pub mod Parts
-pub mod Step
 pub mod Refusals
+pub mod Step

@@ -1,87 +1,17 @@
 // The reader's step: state and block in; the next state and the answer out; voice and data handed out into the lent buffers (document
-// 01, 'Reading a block', 'CRC-4' and 'Refusal numbers').
+// 01, 'Reading a block' and 'Refusal numbers').
 ghost use mathlib.Core.Path.{_≡_};
-ghost use mathlib.Core.Bool.{true, _&&_};
-ghost use Prim.Native.Nat.{_≤_};
+ghost use mathlib.Core.Bool.{true};
 ghost use lib.ListN.{length};
-ghost use Rattle.modes.specs.Codes.{audioOff, lsdOff};
-ghost use Rattle.modes.specs.Commands.{mode, inRange};
-ghost use Rattle.places.specs.Places.{fitting};
-ghost use Rattle.service.specs.Channel.{wrongBits};
-ghost use Rattle.reader.specs.State.{dueOf, slotOf, stateInRange, freshIn};
-ghost use Rattle.reader.specs.Signs.{wordIn, signsOf};
-ghost use Rattle.reader.specs.Parts.{counted, modeBefore, verdictOf, standingOf, readingOf, dueRead, lastSix, compared, placeAfter, keptAfter};
-ghost use Rattle.reader.specs.Refusals.{numberOf, rulingOf};
-ghost use Rattle.reader.specs.Step.{lostStep, reportOf, nextOf, onStep, stepOf, voiceBy, lsdBy, lookOf, Told};
-use bas::Word;
-use modes::BlockNumber;
+ghost use Rattle.buffers.specs.Lengths.{fitting};
+ghost use Rattle.reader.specs.Refusals.{rulingOf};
+ghost use Rattle.reader.specs.Step.{voiceBy, lsdBy, lookOf, Told};
 use modes::Mode;
-use slots::Due;
-use slots::Reading;
-
-// What is due, as a saved state holds it: kind 0 is a plain word, 1 an item, 2 N, and every other number a message with `words` left.
-#[repr(C)]
-pub struct Slot {
-    pub kind: u8,
-    pub words: u8,
-}
-
-// What a reader keeps between blocks: the mode in force; the mode before the first of a run of wrong alignment words, and that run; the
-// number of the next block, 0 while it is unknown; the odd-frame first bits since alignment, of which the last six count, as a number;
-// the run of wrong patterns; what is due; whether there is a block before, and its remainder. Laid out as in C for a card driver.
-#[repr(C)]
-pub struct Reader {
-    pub mode: Mode,
-    pub kept: Mode,
-    pub wrong: u8,
-    pub block: BlockNumber,
-    pub firsts: u8,
-    pub misses: u8,
-    pub slot: Slot,
-    pub before: u8,
-    pub remainder: u8,
-}
-
-// What a block shows in its service channel, and its remainder.
-pub struct Signs {
-    pub wrong: u8,
-    pub c: u8,
-    pub first: bool,
-    pub word: Word,
-    pub remainder: u8,
-}
-
-pub enum Standing {
-    Waiting,
-    Read,
-    Lost,
-}
-
-pub enum Verdict {
-    None,
-    Good,
-    Bad,
-}
-
-// A block's answer, with the reading of its BAS word inside it.
-pub struct Report {
-    pub standing: Standing,
-    pub verdict: Verdict,
-    pub reading: Reading,
-}
-
-// The rows of the refusal numbers that a reader gives, in their order.
-pub enum Refusal {
-    BadState,
-    LineLength,
-    VoiceLength,
-    DataLength,
-}
-
-pub enum Ruling {
-    Refuse(Refusal),
-    Take,
-}
+use refusals::Refusal;
+use refusals::Ruling;
+use track::Reader;
+use track::Report;
+use track::Standing;
 
 pub enum Answer {
     Block(Report),
@@ -94,349 +24,13 @@ pub struct Outcome {
     pub answer: Answer,
 }
 
-pub struct Stepped {
-    pub state: Reader,
-    pub report: Report,
-}
-
-// Where the multiframe stands after a block: the next block's number, the run of wrong patterns, and what is due.
-pub struct Place {
-    pub block: BlockNumber,
-    pub misses: u8,
-    pub due: Due,
-}
-
-// Whether both modes of a state are in range. They are mostly one, which is then judged once.
-fn modes_in_range(mode: Mode, kept: Mode) -> bool
-    ensures { λ r. ⌜ r ≡ (inRange mode && inRange kept) ⌝ }
+// The rows of a call with a block and buffers of these lengths, in their order.
+fn ruling_of(s: Reader, line: usize, voice: usize, lsd: usize) -> Ruling
+    ensures { λ r. ⌜ r ≡ rulingOf s line voice lsd ⌝ }
 {
-    let first = modes::in_range(mode);
-    if (kept.audio == mode.audio) & (kept.lsd == mode.lsd) {
-        return first;
-    }
-    first & modes::in_range(kept)
-}
-
-// Whether a state is in range.
-pub fn in_range(s: Reader) -> bool
-    ensures { λ r. ⌜ r ≡ stateInRange s ⌝ }
-{
-    let wrong = s.wrong;
-    let misses = s.misses;
-    let remainder = s.remainder;
-    let block = s.block.0;
-    modes_in_range(s.mode, s.kept) & (wrong <= 2) & (misses <= 2) & (remainder <= 15) & (block <= 8)
-}
-
-fn due_of(slot: Slot) -> Due
-    ensures { λ r. ⌜ r ≡ dueOf slot ⌝ }
-{
-    let kind = slot.kind;
-    if kind == 0 {
-        return Due::Plain;
-    }
-    if kind == 1 {
-        return Due::AnItem;
-    }
-    if kind == 2 {
-        return Due::N;
-    }
-    Due::Words(slot.words)
-}
-
-fn slot_of(due: Due) -> Slot
-    ensures { λ r. ⌜ r ≡ slotOf due ⌝ }
-{
-    match due {
-        Due::Plain => Slot { kind: 0, words: 0 },
-        Due::AnItem => Slot { kind: 1, words: 0 },
-        Due::N => Slot { kind: 2, words: 0 },
-        Due::Words(left) => Slot {
-            kind: 3,
-            words: left,
-        },
-    }
-}
-
-fn fresh_in(mode: Mode) -> Reader
-    ensures { λ r. ⌜ r ≡ freshIn mode ⌝ }
-{
-    let block = BlockNumber(0);
-    let slot = Slot { kind: 0, words: 0 };
-    Reader {
-        mode: mode,
-        kept: mode,
-        wrong: 0,
-        block: block,
-        firsts: 63,
-        misses: 0,
-        slot: slot,
-        before: 0,
-        remainder: 0,
-    }
-}
-
-// The state that a reader starts in.
-pub fn fresh() -> Reader
-    ensures { λ r. ⌜ r ≡ freshIn (mode audioOff lsdOff) ⌝ }
-{
-    fresh_in(Mode { audio: 31, lsd: 0 })
-}
-
-// The block's BAS word, where at most two of its alignment bits are wrong.
-fn word_in(line: &[u8], wrong: u8) -> Word
-    ensures { λ r. ⌜ r ≡ wordIn wrong (now (line .entry)) ⌝ }
-{
-    if wrong <= 2 {
-        return bas::read_word(service::bas_word(line));
-    }
-    Word::Unreadable
-}
-
-// What a block shows, where so many of its alignment bits are wrong: they have been counted by now.
-fn signs_of(line: &[u8], wrong: u8) -> Signs
-    requires { ⌜ wrong ≡ wrongBits (now line) ⌝ }
-    ensures { λ r. ⌜ r ≡ signsOf (now (line .entry)) ⌝ }
-{
-    let c = service::c_bits(line);
-    let first = service::odd_first(line);
-    let word = word_in(line, wrong);
-    let remainder = bits::block_crc(line);
-    Signs {
-        wrong: wrong,
-        c: c,
-        first: first,
-        word: word,
-        remainder: remainder,
-    }
-}
-
-// A run goes on with a wrong one and ends with a right one.
-fn count(run: u8, right: bool) -> u8
-    requires { ⌜ run ≤ 2 ⌝ }
-    ensures { λ r. ⌜ r ≡ counted run right ⌝ }
-{
-    if right {
-        return 0;
-    }
-    run + 1
-}
-
-// The mode as the first wrong block of the run found it.
-fn mode_before(s: Reader) -> Mode
-    ensures { λ r. ⌜ r ≡ modeBefore s ⌝ }
-{
-    let mode = s.mode;
-    let kept = s.kept;
-    if s.wrong == 0 {
-        return mode;
-    }
-    kept
-}
-
-fn verdict_of(s: Reader, c: u8) -> Verdict
-    ensures { λ r. ⌜ r ≡ verdictOf s c ⌝ }
-{
-    if s.before == 0 {
-        return Verdict::None;
-    }
-    if c == s.remainder {
-        return Verdict::Good;
-    }
-    Verdict::Bad
-}
-
-fn reading_of(s: Reader, word: Word) -> Reading
-    ensures { λ r. ⌜ r ≡ readingOf s word ⌝ }
-{
-    let slot = s.slot;
-    let block = s.block;
-    if block.0 == 0 {
-        return Reading::NotRead;
-    }
-    slots::reading_in(due_of(slot), word)
-}
-
-fn due_read(s: Reader, word: Word) -> Due
-    ensures { λ r. ⌜ r ≡ dueRead s word ⌝ }
-{
-    let slot = s.slot;
-    let block = s.block;
-    if block.0 == 0 {
-        return slots::stand(due_of(slot));
-    }
-    slots::due_after(due_of(slot), word)
-}
-
-// The last six odd-frame first bits, this block's among them.
-fn last_six(firsts: u8, first: bool) -> u8
-    ensures { λ r. ⌜ r ≡ lastSix firsts first ⌝ }
-{
-    let older = firsts % 32 * 2;
-    if first {
-        return older + 1;
-    }
-    older
-}
-
-// The six, compared after block 6.
-fn compare(misses: u8, right: bool, due: Due) -> Place
-    requires { ⌜ misses ≤ 2 ⌝ }
-    ensures { λ r. ⌜ r ≡ compared misses right due ⌝ }
-{
-    let missed = count(misses, right);
-    let unknown = BlockNumber(0);
-    let next = BlockNumber(7);
-    if missed == 3 {
-        return Place {
-            block: unknown,
-            misses: 0,
-            due: Due::Plain,
-        };
-    }
-    Place {
-        block: next,
-        misses: missed,
-        due: due,
-    }
-}
-
-fn place_after(s: Reader, right: bool, due: Due) -> Place
-    requires { ⌜ s .misses ≤ 2 ⌝ }
-    ensures { λ r. ⌜ r ≡ placeAfter s right due ⌝ }
-{
-    let block = s.block;
-    let misses = s.misses;
-    let unknown = BlockNumber(0);
-    let seventh = BlockNumber(7);
-    if block.0 == 0 {
-        if right {
-            return Place {
-                block: seventh,
-                misses: misses,
-                due: due,
-            };
-        }
-        return Place {
-            block: unknown,
-            misses: misses,
-            due: due,
-        };
-    }
-    if block.0 == 6 {
-        return compare(misses, right, due);
-    }
-    let next = modes::next_block(block);
-    Place {
-        block: next,
-        misses: misses,
-        due: due,
-    }
-}
-
-// The mode to go back to: that in force while the alignment words are right.
-fn kept_after(s: Reader, wrong: u8, mode: Mode) -> Mode
-    ensures { λ r. ⌜ r ≡ keptAfter s wrong mode ⌝ }
-{
-    if wrong == 0 {
-        return mode;
-    }
-    mode_before(s)
-}
-
-fn standing_of(s: Reader) -> Standing
-    ensures { λ r. ⌜ r ≡ standingOf s ⌝ }
-{
-    let block = s.block;
-    if block.0 == 0 {
-        return Standing::Waiting;
-    }
-    Standing::Read
-}
-
-// The answer to a block that is not lost.
-fn report_of(s: Reader, g: Signs) -> Report
-    ensures { λ r. ⌜ r ≡ reportOf s g ⌝ }
-{
-    let word = g.word;
-    let standing = standing_of(s);
-    let verdict = verdict_of(s, g.c);
-    let reading = reading_of(s, word);
-    Report {
-        standing: standing,
-        verdict: verdict,
-        reading: reading,
-    }
-}
-
-// The state after a block that is not lost, where its alignment word makes so long a run of wrong ones.
-fn next_of(s: Reader, g: Signs, run: u8) -> Reader
-    requires { ⌜ s .misses ≤ 2 ⌝ }
-    ensures { λ r. ⌜ r ≡ nextOf s g run ⌝ }
-{
-    let old = s.mode;
-    let word = g.word;
-    let mode = slots::obey(reading_of(s, word), old);
-    let kept = kept_after(s, g.wrong, mode);
-    let firsts = last_six(s.firsts, g.first);
-    let place = place_after(s, firsts == 0b001011, due_read(s, word));
-    let block = place.block;
-    let due = place.due;
-    let slot = slot_of(due);
-    Reader {
-        mode: mode,
-        kept: kept,
-        wrong: run,
-        block: block,
-        firsts: firsts,
-        misses: place.misses,
-        slot: slot,
-        before: 1,
-        remainder: g.remainder,
-    }
-}
-
-// The step over a block that is lost: the mode goes back, and the rest is fresh.
-fn lose(s: Reader) -> Stepped
-    ensures { λ r. ⌜ r ≡ lostStep s ⌝ }
-{
-    let gone = fresh_in(mode_before(s));
-    let lost = Report {
-        standing: Standing::Lost,
-        verdict: Verdict::None,
-        reading: Reading::NotRead,
-    };
-    Stepped {
-        state: gone,
-        report: lost,
-    }
-}
-
-// The step over a block that is not lost, where so many of its alignment bits are wrong and its alignment word makes so long a run.
-fn go_on(s: Reader, line: &[u8], wrong: u8, run: u8) -> Stepped
-    requires { ⌜ (s .misses ≤ 2) × (wrong ≡ wrongBits (now line)) ⌝ }
-    ensures { λ r. ⌜ r ≡ onStep s (signsOf (now (line .entry))) run ⌝ }
-{
-    let g = signs_of(line, wrong);
-    let report = report_of(s, g);
-    let state = next_of(s, g, run);
-    Stepped {
-        state: state,
-        report: report,
-    }
-}
-
-// The step over a block: the third wrong alignment word in a row is a loss, and nothing else of the block is looked at.
-fn step(s: Reader, line: &[u8]) -> Stepped
-    requires { ⌜ (s .wrong ≤ 2) × (s .misses ≤ 2) ⌝ }
-    ensures { λ r. ⌜ r ≡ stepOf s (signsOf (now (line .entry))) ⌝ }
-{
-    let wrong = service::wrong_bits(line);
-    let run = count(s.wrong, wrong == 0);
-    if run == 3 {
-        return lose(s);
-    }
-    go_on(s, line, wrong, run)
+    let one = refusals::judge(Ruling::Accept, Refusal::BadState, !track::in_range(s));
+    let two = buffers::judge_line(one, line);
+    buffers::judge_streams(two, voice, lsd)
 }
 
 // Voice and data by the mode where the block is read, and zeros where it is not.
@@ -446,47 +40,17 @@ fn hand(standing: Standing, mode: Mode, line: &[u8], voice: &mut [u8], lsd: &mut
 {
     match standing {
         Standing::Waiting => {
-            sorter::clear(voice);
-            sorter::clear(lsd);
+            packing::clear(voice);
+            packing::clear(lsd);
         }
         Standing::Read => {
             sorter::hand_out(line, mode, voice, lsd);
         }
         Standing::Lost => {
-            sorter::clear(voice);
-            sorter::clear(lsd);
+            packing::clear(voice);
+            packing::clear(lsd);
         }
     }
-}
-
-// Document 01's number of a refusal.
-pub fn number_of(r: Refusal) -> u8
-    ensures { λ n. ⌜ n ≡ numberOf r ⌝ }
-{
-    match r {
-        Refusal::BadState => 1,
-        Refusal::LineLength => 2,
-        Refusal::VoiceLength => 3,
-        Refusal::DataLength => 4,
-    }
-}
-
-fn ruling_of(s: Reader, line: usize, voice: usize, lsd: usize) -> Ruling
-    ensures { λ r. ⌜ r ≡ rulingOf s line voice lsd ⌝ }
-{
-    if !in_range(s) {
-        return Ruling::Refuse(Refusal::BadState);
-    }
-    if line != 160 {
-        return Ruling::Refuse(Refusal::LineLength);
-    }
-    if voice != 140 {
-        return Ruling::Refuse(Refusal::VoiceLength);
-    }
-    if lsd != 156 {
-        return Ruling::Refuse(Refusal::DataLength);
-    }
-    Ruling::Take
 }
 
 // One block: its voice and data go into the lent buffers, or the call is refused and changes nothing.
@@ -500,8 +64,8 @@ pub fn read(state: Reader, line: &[u8], voice: &mut [u8], lsd: &mut [u8]) -> Out
             state: state,
             answer: Answer::Refused(why),
         },
-        Ruling::Take => {
-            let stepped = step(state, line);
+        Ruling::Accept => {
+            let stepped = track::step(state, line);
             let next = stepped.state;
             let report = stepped.report;
             let standing = report.standing;
@@ -518,14 +82,14 @@ pub fn read(state: Reader, line: &[u8], voice: &mut [u8], lsd: &mut [u8]) -> Out
 pub fn look(state: Reader, line: &[u8]) -> Outcome
     ensures { λ r. ⌜ r ≡ lookOf state (now (line .entry)) ⌝ }
 {
-    let ruling = ruling_of(state, line.len(), 140, 156);
+    let ruling = ruling_of(state, line.len(), buffers::VOICE, buffers::LSD);
     match ruling {
         Ruling::Refuse(why) => Outcome {
             state: state,
             answer: Answer::Refused(why),
         },
-        Ruling::Take => {
-            let stepped = step(state, line);
+        Ruling::Accept => {
+            let stepped = track::step(state, line);
             let next = stepped.state;
             let report = stepped.report;
             Outcome {

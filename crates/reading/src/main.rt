@@ -9,12 +9,12 @@ use modes::BlockNumber;
 use modes::Mode;
 use reader::Answer;
 use reader::Outcome;
-use reader::Reader;
-use reader::Report;
-use reader::Slot;
-use reader::Standing;
-use reader::Verdict;
 use slots::Reading;
+use slots::Slot;
+use track::Reader;
+use track::Report;
+use track::Standing;
+use track::Verdict;
 
 // The refused calls. The bits of a call: 1 a short line, 2 short voice, 4 short data, 8 a forged state. With several things wrong the
 // smallest number answers.
@@ -146,7 +146,7 @@ fn print_report(report: Report) {
 fn print_answer(answer: Answer) {
     match answer {
         Answer::Block(report) => print_report(report),
-        Answer::Refused(why) => named(b"refused ", reader::number_of(why)),
+        Answer::Refused(why) => named(b"refused ", refusals::number_of(why)),
     }
 }
 
@@ -209,7 +209,7 @@ fn next_block(given: Reader, k: u64) -> Turn {
 
 // Hands every block to one reader, also after a loss: nothing is searched for. Whether all of the blocks were there.
 fn blocks_read(blocks: u8) -> bool {
-    let mut state = reader::fresh();
+    let mut state = track::fresh();
     for k in 0..blocks {
         let turn = next_block(state, k as u64 + 1);
         if !turn.whole {
@@ -286,7 +286,7 @@ fn end(length: usize, call: u8, bit: u8) -> usize
 
 // A fresh state, or one with a block numbered 9, which no reader reaches.
 fn given_to(call: u8) -> Reader {
-    let s = reader::fresh();
+    let s = track::fresh();
     let mode = s.mode;
     let kept = s.kept;
     let slot = s.slot;

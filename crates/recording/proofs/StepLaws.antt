@@ -1,30 +1,31 @@
 -- What a step leaves, by its ruling and by what the reader makes of a block.
 use mathlib.Core.Path.{_≡_, refl, ap, _∙_}
-use mathlib.Core.Bool.{Bool, true, false, not, cond, _||_}
+use mathlib.Core.Bool.{Bool, true, false, cond, _||_}
 use mathlib.Core.List.{List}
 use Prim.Native.Nat.{ℕ, _+_, _≤_}
 use native.Mathlib.Omega.{arith}
-use lib.Dec.{eqb, ltb}
+use lib.Dec.{ltb}
 use lib.ListN.{length, take, drop, length-drop}
 use lib.Seq.{length-take-le}
-use borrow.Author.Tests.{eqb-true, eq-eqb, ltb-false, le-ltb}
+use borrow.Author.Tests.{eqb-true, eq-eqb, ltb-false, le-ltb, not-false}
 use Rattle.bits.proofs.Settled.{settled}
-use Rattle.reader.specs.State.{stateInRange}
+use Rattle.bits.proofs.Every.{or-left-false, or-right-false}
+use Rattle.refusals.specs.declared.Ruling.{Ruling}
+use Rattle.refusals.specs.declared.Ruling.the-variants.{Refuse, Accept}
+use Rattle.refusals.proofs.RowLaws.{none-given}
+use Rattle.buffers.specs.Lengths.{lineOctets, voiceOctets, lsdOctets}
+use Rattle.track.specs.State.{stateInRange}
+use Rattle.track.specs.declared.Reader.{Reader}
+use Rattle.track.proofs.RangeLaws.{step-in-range}
 use Rattle.reader.specs.Step as reading
-use Rattle.reader.specs.declared.Reader.{Reader}
 use Rattle.reader.specs.declared.Outcome.{Outcome}
 use Rattle.reader.specs.Refusals as judged
-use Rattle.reader.specs.declared.Refusal as why
-use Rattle.reader.specs.declared.Ruling as ruling
-use Rattle.reader.proofs.RangeLaws.{step-in-range}
 use Rattle.search.specs.Finding.{searchOf}
 use Rattle.search.specs.declared.Found.{Found}
 use Rattle.search.proofs.PlaceLaws.{found-fits}
-use Rattle.recording.specs.Refusals.{rulingOf}
-use Rattle.recording.specs.Walk.{leftFrom, blockAt, blockRead, foundAgain, answerHere, offBlock, meetsNone, answerBy, placeBy, readerBy, steppedBy, voiceBy, lsdBy, ruledBy, movedBy, answerAt, stepAt, ruledAt, lookAt, voiceAt, lsdAt}
-use Rattle.recording.specs.declared.Refusal.the-variants.{BadState, VoiceLength, DataLength, PastTheEnd}
-use Rattle.recording.specs.declared.Ruling.{Ruling}
-use Rattle.recording.specs.declared.Ruling.the-variants.{Refuse, Go}
+use Rattle.recording.specs.Refusals.{rows, rulingOf}
+use Rattle.recording.specs.Walk.{leftFrom, blockAt, blockRead, foundAgain, answerHere, answerBy, placeBy, readerBy, steppedBy, voiceBy, lsdBy, answerAt, stepAt, lookAt, voiceAt, lsdAt}
+use Rattle.recording.specs.Inner.{offBlock, meetsNone, movedBy, ruledAt}
 use Rattle.recording.specs.declared.Answer.{Answer}
 use Rattle.recording.specs.declared.Answer.the-variants.{Block, Place, End, Refused}
 use Rattle.recording.specs.declared.Stepped.{Stepped}
@@ -45,7 +46,7 @@ module _ (recording : List ℕ) (place : ℕ) (lost : Bool) (s : Reader) (voice 
   by-ruling q r v d e a b f = (rw (e, a), rw (e, b), rw (e, f))
 
   -- a look says the same where the buffers fit
-  pub look-step : length voice ≡ 140 → length lsd ≡ 156 → lookAt recording place lost s ≡ stepAt recording place lost s voice lsd
+  pub look-step : length voice ≡ voiceOctets → length lsd ≡ lsdOctets → lookAt recording place lost s ≡ stepAt recording place lost s voice lsd
   unfolding lookAt stepAt answerAt
   look-step v d = rw (v, d)
 
@@ -73,52 +74,42 @@ met recording place lost = go (ltb 65536 (length recording)) lost refl
         record { small = ltb-false _ _ e; inside = omega (arith, ltb-false (leftFrom recording place) 160 q); here = λ s. rw q }
 
 module _ (recording : List ℕ) (place : ℕ) (lost : Bool) (s : Reader) (m : Met recording place lost) where
-  block-length : length (blockAt recording place) ≡ 160
-  block-length = length-take-le 160 (drop place recording) (omega (arith, m .inside, length-drop place recording))
+  block-length : length (blockAt recording place) ≡ lineOctets
+  block-length = length-take-le lineOctets (drop place recording) (omega (arith, m .inside, length-drop place recording))
 
   -- the ruling is the reader's
-  rules-alike : (voice lsd : ℕ) → rulingOf (length recording) place s voice lsd ≡ ruledBy (judged.rulingOf s 160 voice lsd)
+  rules-alike : (voice lsd : ℕ) → rulingOf (length recording) place s voice lsd ≡ judged.rulingOf s lineOctets voice lsd
   unfolding rulingOf judged.rulingOf
-  rules-alike voice lsd =
-      rw (le-ltb 65536 (length recording) (m .small), le-ltb (length recording) place (omega (arith, m .inside)))
-      (go (stateInRange s) (eqb voice 140) (eqb lsd 156))
-    where
-      go : (r v d : Bool)
-          → cond (not r) (Refuse BadState) (cond (not v) (Refuse VoiceLength) (cond (not d) (Refuse DataLength) Go))
-          ≡ ruledBy (cond (not r) (ruling.the-variants.Refuse why.the-variants.BadState) (cond (not v) (ruling.the-variants.Refuse why.the-variants.VoiceLength) (cond (not d) (ruling.the-variants.Refuse why.the-variants.DataLength) ruling.the-variants.Take)))
-      go false v d = refl
-      go true false d = refl
-      go true true false = refl
-      go true true true = refl
+  rules-alike voice lsd = rw (le-ltb 65536 (length recording) (m .small), le-ltb (length recording) place (omega (arith, m .inside)))
 
   -- so a step leaves what the reader leaves
-  moved-is : (q : ruling.Ruling)
-      → movedBy (reading.outcomeBy q s (blockAt recording place)) place lost ≡ steppedBy (answerBy (ruledBy q) recording place lost s) recording place lost s
-  moved-is (ruling.the-variants.Refuse r) = refl
-  moved-is ruling.the-variants.Take = rw (m .here s)
+  moved-is : (q : Ruling)
+      → movedBy (reading.outcomeBy q s (blockAt recording place)) place lost ≡ steppedBy (answerBy q recording place lost s) recording place lost s
+  moved-is (Refuse r) = refl
+  moved-is Accept = rw (m .here s)
 
-  voice-is : (q : ruling.Ruling) (voice : List ℕ)
-      → reading.voiceIn q s (blockAt recording place) voice ≡ voiceBy (answerBy (ruledBy q) recording place lost s) recording place s voice
-  voice-is (ruling.the-variants.Refuse r) voice = refl
-  voice-is ruling.the-variants.Take voice = rw (m .here s)
+  voice-is : (q : Ruling) (voice : List ℕ)
+      → reading.voiceIn q s (blockAt recording place) voice ≡ voiceBy (answerBy q recording place lost s) recording place s voice
+  voice-is (Refuse r) voice = refl
+  voice-is Accept voice = rw (m .here s)
 
-  lsd-is : (q : ruling.Ruling) (lsd : List ℕ)
-      → reading.lsdIn q s (blockAt recording place) lsd ≡ lsdBy (answerBy (ruledBy q) recording place lost s) recording place s lsd
-  lsd-is (ruling.the-variants.Refuse r) lsd = refl
-  lsd-is ruling.the-variants.Take lsd = rw (m .here s)
+  lsd-is : (q : Ruling) (lsd : List ℕ)
+      → reading.lsdIn q s (blockAt recording place) lsd ≡ lsdBy (answerBy q recording place lost s) recording place s lsd
+  lsd-is (Refuse r) lsd = refl
+  lsd-is Accept lsd = rw (m .here s)
 
   pub block-looked : (line : List ℕ) (o : Outcome) (r : Stepped) → line ≡ blockAt recording place → o ≡ reading.lookOf s line
       → r ≡ movedBy o place lost → r ≡ lookAt recording place lost s
   unfolding lookAt reading.lookOf
   block-looked line o r lent e moved =
-      rw (rules-alike 140 156) (moved ∙ ap (λ (x : Outcome). movedBy x place lost) (rw (lent, block-length) at e) ∙ moved-is (judged.rulingOf s 160 140 156))
+      rw (rules-alike voiceOctets lsdOctets) (moved ∙ ap (λ (x : Outcome). movedBy x place lost) (rw (lent, block-length) at e) ∙ moved-is (judged.rulingOf s lineOctets voiceOctets lsdOctets))
 
   pub block-stepped : (line voice lsd : List ℕ) (o : Outcome) (r : Stepped) (v d : List ℕ) → line ≡ blockAt recording place
       → reading.Told s line voice lsd o v d → r ≡ movedBy o place lost → Left recording place lost s voice lsd r v d
   unfolding reading.outcomeOf reading.voiceOf reading.lsdOf
   block-stepped line voice lsd o r v d lent t moved =
-      let q = judged.rulingOf s 160 (length voice) (length lsd) in
-      by-ruling recording place lost s voice lsd (ruledBy q) r v d (rules-alike (length voice) (length lsd))
+      let q = judged.rulingOf s lineOctets (length voice) (length lsd) in
+      by-ruling recording place lost s voice lsd q r v d (rules-alike (length voice) (length lsd))
       (moved ∙ ap (λ (x : Outcome). movedBy x place lost) (rw (lent, block-length) at (t .outcome)) ∙ moved-is q)
       ((rw (lent, block-length) at (t .heard)) ∙ voice-is q voice)
       ((rw (lent, block-length) at (t .given)) ∙ lsd-is q lsd)
@@ -145,36 +136,27 @@ module _ (b : Answer) (left place : ℕ) (recording : List ℕ) (s : Reader) whe
 -- ---- a step that no row refuses
 pub record Goes (all place : ℕ) (s : Reader) (voice lsd : ℕ) : Type 0 where
   pub range : stateInRange s ≡ true
-  pub heard : voice ≡ 140
-  pub given : lsd ≡ 156
+  pub heard : voice ≡ voiceOctets
+  pub given : lsd ≡ lsdOctets
   pub small : all ≤ 65536
   pub inside : place ≤ all
 
-pub goes : (all place : ℕ) (s : Reader) (voice lsd : ℕ) → rulingOf all place s voice lsd ≡ Go → Goes all place s voice lsd
+pub goes : (all place : ℕ) (s : Reader) (voice lsd : ℕ) → rulingOf all place s voice lsd ≡ Accept → Goes all place s voice lsd
 unfolding rulingOf
-goes all place s voice lsd = go (stateInRange s) (eqb voice 140) (eqb lsd 156) (ltb 65536 all) (ltb all place) refl refl refl refl refl
-  where
-    go : (r v d n e : Bool) → stateInRange s ≡ r → eqb voice 140 ≡ v → eqb lsd 156 ≡ d → ltb 65536 all ≡ n → ltb all place ≡ e
-        → cond (not r) (Refuse BadState) (cond (not v) (Refuse VoiceLength) (cond (not d) (Refuse DataLength) (cond (n || e) (Refuse PastTheEnd) Go))) ≡ Go
-        → Goes all place s voice lsd
-    go false v d n e er ev ed en ee q = let z : _≡_ {A = ℕ} 0 1 = cc in absurd (omega arith)
-    go true false d n e er ev ed en ee q = let z : _≡_ {A = ℕ} 0 1 = cc in absurd (omega arith)
-    go true true false n e er ev ed en ee q = let z : _≡_ {A = ℕ} 0 1 = cc in absurd (omega arith)
-    go true true true true e er ev ed en ee q = let z : _≡_ {A = ℕ} 0 1 = cc in absurd (omega arith)
-    go true true true false true er ev ed en ee q = let z : _≡_ {A = ℕ} 0 1 = cc in absurd (omega arith)
-    go true true true false false er ev ed en ee q =
-        record {
-          range = er;
-          heard = eqb-true _ _ ev;
-          given = eqb-true _ _ ed;
-          small = ltb-false _ _ en;
-          inside = ltb-false _ _ ee;
-        }
+goes all place s voice lsd e =
+    let h = none-given (rows all place s voice lsd) e in
+    record {
+      range = not-false _ (h .0);
+      heard = eqb-true _ _ (not-false _ (h .1 .0));
+      given = eqb-true _ _ (not-false _ (h .1 .1 .0));
+      small = ltb-false _ _ (or-left-false (ltb 65536 all) (ltb all place) (h .1 .1 .1 .0));
+      inside = ltb-false _ _ (or-right-false (ltb 65536 all) (ltb all place) (h .1 .1 .1 .0));
+    }
 
-pub rules-go : (all place : ℕ) (s : Reader) (voice lsd : ℕ) → Goes all place s voice lsd → rulingOf all place s voice lsd ≡ Go
+pub rules-go : (all place : ℕ) (s : Reader) (voice lsd : ℕ) → Goes all place s voice lsd → rulingOf all place s voice lsd ≡ Accept
 unfolding rulingOf
 rules-go all place s voice lsd g =
-    rw (g .range, eq-eqb voice 140 (g .heard), eq-eqb lsd 156 (g .given), le-ltb 65536 all (g .small), le-ltb all place (g .inside))
+    rw (g .range, eq-eqb voice voiceOctets (g .heard), eq-eqb lsd lsdOctets (g .given), le-ltb 65536 all (g .small), le-ltb all place (g .inside))
 
 -- ---- a step that meets no block: it is refused, or no row is in the way
 pub off-here : (all place : ℕ) (lost : Bool) → meetsNone all place lost ≡ true → all ≤ 65536 → offBlock all place lost ≡ true
@@ -184,7 +166,7 @@ module _ (recording : List ℕ) (place : ℕ) (lost : Bool) (s : Reader) (voice 
   off-left : (q : Ruling) → rulingOf (length recording) place s (length voice) (length lsd) ≡ q
       → (voice ≡ voiceBy (answerBy q recording place lost s) recording place s voice) × (lsd ≡ lsdBy (answerBy q recording place lost s) recording place s lsd)
   off-left (Refuse r) e = (refl, refl)
-  off-left Go e =
+  off-left Accept e =
       let left = leftFrom recording place in
       let off = off-here (length recording) place lost none ((goes _ _ _ _ _ e) .small) in
       let found = searchOf recording place in
@@ -199,10 +181,10 @@ module _ (recording : List ℕ) (place : ℕ) (lost : Bool) (s : Reader) (voice 
       by-ruling recording place lost s voice lsd q r voice lsd refl e (off-left q refl .0) (off-left q refl .1)
 
 -- a look that no row refuses says what the walk finds there
-pub look-here : (recording : List ℕ) (place : ℕ) (lost : Bool) (s : Reader) → Goes (length recording) place s 140 156
+pub look-here : (recording : List ℕ) (place : ℕ) (lost : Bool) (s : Reader) → Goes (length recording) place s voiceOctets lsdOctets
     → lookAt recording place lost s ≡ steppedBy (answerHere recording place lost s) recording place lost s
 unfolding lookAt
-look-here recording place lost s g = rw (rules-go (length recording) place s 140 156 g)
+look-here recording place lost s g = rw (rules-go (length recording) place s voiceOctets lsdOctets g)
 
 -- ---- a step leaves the reader's state in range, and the walk in the recording
 module _ (recording : List ℕ) (place : ℕ) (s : Reader) where

@@ -1,32 +1,26 @@
 -- Document 01, 'Refusal numbers', rows 1, 3, 4 and 9 of a walk's step.
-use mathlib.Core.Bool.{not, cond, _||_}
+use mathlib.Core.Bool.{not, _||_}
+use mathlib.Core.List.{List, [], _∷_, _++_}
 use Prim.Native.Nat.{ℕ}
-use lib.Dec.{eqb, ltb}
-use Rattle.reader.specs.State.{stateInRange}
-use Rattle.reader.specs.declared.Reader.{Reader}
-use Rattle.recording.specs.declared.Refusal.{Refusal}
-use Rattle.recording.specs.declared.Refusal.the-variants.{BadState, VoiceLength, DataLength, PastTheEnd}
-use Rattle.recording.specs.declared.Ruling.{Ruling}
-use Rattle.recording.specs.declared.Ruling.the-variants.{Refuse, Go}
+use lib.Dec.{ltb}
+use Rattle.refusals.specs.Numbers.{numberOf}
+use Rattle.refusals.specs.Rows.{Row, row, firstGiven}
+use Rattle.refusals.specs.declared.Refusal.the-variants.{BadState, BadRecording}
+use Rattle.refusals.specs.declared.Ruling.{Ruling}
+use Rattle.buffers.specs.Lengths.{streamRows}
+use Rattle.track.specs.State.{stateInRange}
+use Rattle.track.specs.declared.Reader.{Reader}
 use Rattle.recording.specs.declared.Answer.{Answer}
 use Rattle.recording.specs.declared.Answer.the-variants.{Block, Place, End, Refused}
 
--- document 01's number of each refusal
-abbrev pub numberOf : Refusal → ℕ
-numberOf BadState = 1
-numberOf VoiceLength = 3
-numberOf DataLength = 4
-numberOf PastTheEnd = 9
+-- the rows of a step at a place of a recording of `all` octets, with buffers of these lengths, in their order. Row 9: the recording is over
+-- 65,536 octets, or the place is past its end
+abbrev pub rows : ℕ → ℕ → Reader → ℕ → ℕ → List Row
+rows all place s voice lsd =
+    row BadState (not (stateInRange s)) ∷ streamRows voice lsd ++ row BadRecording (ltb 65536 all || ltb all place) ∷ []
 
--- smaller number first: reader's state out of range, voice not 140, data not 156 octets; recording over 65,536 octets, or the place past
--- its end
 unfoldable pub rulingOf : ℕ → ℕ → Reader → ℕ → ℕ → Ruling
-rulingOf all place s voice lsd =
-    cond (not (stateInRange s)) (Refuse BadState)
-    (cond (not (eqb voice 140)) (Refuse VoiceLength)
-    (cond (not (eqb lsd 156)) (Refuse DataLength)
-    (cond (ltb 65536 all || ltb all place) (Refuse PastTheEnd)
-    Go)))
+rulingOf all place s voice lsd = firstGiven (rows all place s voice lsd)
 
 -- what an answer stands for: its kind, a block, a place, the end or refused; the number of the refusal, 0 where nothing is refused; and
 -- its value, the place found or the octets left, 0 for the other two

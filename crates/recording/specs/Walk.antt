@@ -1,27 +1,23 @@
 -- Document 01, 'Finding alignment': one step of a walk, which keeps a recording, a place in it, and whether the block before was lost.
-use mathlib.Core.Bool.{Bool, true, false, cond, _||_}
+use mathlib.Core.Bool.{Bool, true, false, cond}
 use mathlib.Core.List.{List}
 use Prim.Native.Nat.{ℕ, _+_, _-_}
 use lib.Dec.{ltb}
 use lib.ListN.{length, take, drop}
-use Rattle.reader.specs.Signs.{signsOf}
+use Rattle.refusals.specs.declared.Ruling.{Ruling}
+use Rattle.refusals.specs.declared.Ruling.the-variants.{Refuse, Accept}
+use Rattle.buffers.specs.Lengths.{lineOctets, voiceOctets, lsdOctets}
+use Rattle.track.specs.Signs.{signsOf}
+use Rattle.track.specs.Step as tracking
+use Rattle.track.specs.declared.Reader.{Reader}
+use Rattle.track.specs.declared.Report.{Report}
+use Rattle.track.specs.declared.Stepped as tracked
+use Rattle.track.specs.declared.Standing.{Standing}
+use Rattle.track.specs.declared.Standing.the-variants.{Waiting, Read, Lost}
 use Rattle.reader.specs.Step as reading
-use Rattle.reader.specs.declared.Reader.{Reader}
-use Rattle.reader.specs.declared.Report.{Report}
-use Rattle.reader.specs.declared.Stepped as read
-use Rattle.reader.specs.declared.Outcome as told
-use Rattle.reader.specs.declared.Answer as heard
-use Rattle.reader.specs.declared.Refusal as heardWhy
-use Rattle.reader.specs.declared.Ruling as heardRuling
-use Rattle.reader.specs.declared.Standing.{Standing}
-use Rattle.reader.specs.declared.Standing.the-variants.{Waiting, Read, Lost}
 use Rattle.search.specs.Finding.{searchOf}
 use Rattle.search.specs.declared.Found.{Found}
 use Rattle.recording.specs.Refusals.{rulingOf}
-use Rattle.recording.specs.declared.Refusal.{Refusal}
-use Rattle.recording.specs.declared.Refusal.the-variants.{BadState, VoiceLength, DataLength}
-use Rattle.recording.specs.declared.Ruling.{Ruling}
-use Rattle.recording.specs.declared.Ruling.the-variants.{Refuse, Go}
 use Rattle.recording.specs.declared.Answer.{Answer}
 use Rattle.recording.specs.declared.Answer.the-variants.{Block, Place, End, Refused}
 use Rattle.recording.specs.declared.Stepped.{Stepped}
@@ -31,11 +27,11 @@ abbrev pub leftFrom : List ℕ → ℕ → ℕ
 leftFrom recording place = length recording - place
 
 abbrev pub blockAt : List ℕ → ℕ → List ℕ
-blockAt recording place = take 160 (drop place recording)
+blockAt recording place = take lineOctets (drop place recording)
 
 -- what the reader makes of it
-abbrev pub readAt : Reader → List ℕ → ℕ → read.Stepped
-readAt s recording place = reading.stepOf s (signsOf (blockAt recording place))
+abbrev pub readAt : Reader → List ℕ → ℕ → tracked.Stepped
+readAt s recording place = tracking.stepOf s (signsOf (blockAt recording place))
 
 abbrev pub blockRead : Reader → List ℕ → ℕ → Answer
 blockRead s recording place = Block ((readAt s recording place) .report)
@@ -50,23 +46,15 @@ foundAgain (Found.Refused r) left = End left
 abbrev pub answerHere : List ℕ → ℕ → Bool → Reader → Answer
 answerHere recording place lost s =
     let left = leftFrom recording place in
-    cond lost (foundAgain (searchOf recording place) left) (cond (ltb left 160) (End left) (blockRead s recording place))
-
--- so a step meets no block after a lost one, and none at the end
-abbrev pub offBlock : ℕ → ℕ → Bool → Bool
-offBlock all place lost = lost || ltb (all - place) 160
-
--- and none in a recording that is too long
-abbrev pub meetsNone : ℕ → ℕ → Bool → Bool
-meetsNone all place lost = ltb 65536 all || offBlock all place lost
+    cond lost (foundAgain (searchOf recording place) left) (cond (ltb left lineOctets) (End left) (blockRead s recording place))
 
 abbrev pub answerBy : Ruling → List ℕ → ℕ → Bool → Reader → Answer
 answerBy (Refuse r) recording place lost s = Refused r
-answerBy Go recording place lost s = answerHere recording place lost s
+answerBy Accept recording place lost s = answerHere recording place lost s
 
 -- a block moves the walk on by its octets; a step that answers a place moves the walk there, "end" moves nothing, nor does a refusal
 abbrev pub placeBy : Answer → ℕ → ℕ
-placeBy (Block report) place = place + 160
+placeBy (Block report) place = place + lineOctets
 placeBy (Place p) place = p
 placeBy (End left) place = place
 placeBy (Refused r) place = place
@@ -92,40 +80,24 @@ readerBy (Place p) recording place s = s
 readerBy (End left) recording place s = s
 readerBy (Refused r) recording place s = s
 
+-- a buffer after an answer: what a block hands out, else what it held
+abbrev bufferBy : Answer → (Report → List ℕ) → List ℕ → List ℕ
+bufferBy (Block report) handed held = handed report
+bufferBy (Place p) handed held = held
+bufferBy (End left) handed held = held
+bufferBy (Refused r) handed held = held
+
 abbrev pub voiceBy : Answer → List ℕ → ℕ → Reader → List ℕ → List ℕ
-voiceBy (Block report) recording place s voice = reading.voiceBy (report .standing) (s .mode) (blockAt recording place)
-voiceBy (Place p) recording place s voice = voice
-voiceBy (End left) recording place s voice = voice
-voiceBy (Refused r) recording place s voice = voice
+voiceBy a recording place s voice =
+    bufferBy a (λ (report : Report). reading.voiceBy (report .standing) (s .mode) (blockAt recording place)) voice
 
 abbrev pub lsdBy : Answer → List ℕ → ℕ → Reader → List ℕ → List ℕ
-lsdBy (Block report) recording place s lsd = reading.lsdBy (report .standing) (s .mode) (blockAt recording place)
-lsdBy (Place p) recording place s lsd = lsd
-lsdBy (End left) recording place s lsd = lsd
-lsdBy (Refused r) recording place s lsd = lsd
+lsdBy a recording place s lsd =
+    bufferBy a (λ (report : Report). reading.lsdBy (report .standing) (s .mode) (blockAt recording place)) lsd
 
 abbrev pub steppedBy : Answer → List ℕ → ℕ → Bool → Reader → Stepped
 steppedBy a recording place lost s =
     record { answer = a; reader = readerBy a recording place s; place = placeBy a place; lost = lostBy a lost }
-
--- ---- the reader's answer to the block at the place, as the walk tells it; a block has its 160 octets
-abbrev pub refusedBy : heardWhy.Refusal → Refusal
-refusedBy heardWhy.the-variants.BadState = BadState
-refusedBy heardWhy.the-variants.LineLength = BadState
-refusedBy heardWhy.the-variants.VoiceLength = VoiceLength
-refusedBy heardWhy.the-variants.DataLength = DataLength
-
-abbrev pub ruledBy : heardRuling.Ruling → Ruling
-ruledBy (heardRuling.the-variants.Refuse why) = Refuse (refusedBy why)
-ruledBy heardRuling.the-variants.Take = Go
-
-abbrev pub movedBy : told.Outcome → ℕ → Bool → Stepped
-movedBy o place lost = by (o .answer)
-  where
-    by : heard.Answer → Stepped
-    by (heard.the-variants.Block report) =
-        record { answer = Block report; reader = o .state; place = place + 160; lost = isLost report }
-    by (heard.the-variants.Refused why) = record { answer = Refused (refusedBy why); reader = o .state; place = place; lost = lost }
 
 -- ---- the step: its answer, and what it leaves of the walk, the reader and the buffers
 unfoldable pub answerAt : List ℕ → ℕ → Bool → Reader → List ℕ → List ℕ → Answer
@@ -141,11 +113,7 @@ voiceAt recording place lost s voice lsd = voiceBy (answerAt recording place los
 unfoldable pub lsdAt : List ℕ → ℕ → Bool → Reader → List ℕ → List ℕ → List ℕ
 lsdAt recording place lost s voice lsd = lsdBy (answerAt recording place lost s voice lsd) recording place s lsd
 
--- the same beside the buffers, with such lengths of theirs
-abbrev pub ruledAt : List ℕ → ℕ → Bool → Reader → ℕ → ℕ → Stepped
-ruledAt recording place lost s voice lsd =
-    steppedBy (answerBy (rulingOf (length recording) place s voice lsd) recording place lost s) recording place lost s
-
 -- what a step leaves beside the buffers is the same for all buffers that fit, so it can be had without any
 unfoldable pub lookAt : List ℕ → ℕ → Bool → Reader → Stepped
-lookAt recording place lost s = ruledAt recording place lost s 140 156
+lookAt recording place lost s =
+    steppedBy (answerBy (rulingOf (length recording) place s voiceOctets lsdOctets) recording place lost s) recording place lost s

@@ -4,24 +4,14 @@ ghost use mathlib.Core.Bool.{true};
 ghost use Prim.Native.Nat.{_≤_};
 ghost use lib.ListN.{length};
 ghost use Rattle.search.specs.Finding.{searchOf};
-ghost use Rattle.recording.specs.Refusals.{numberOf, rulingOf};
-ghost use Rattle.recording.specs.Walk.{leftFrom, foundAgain, offBlock, meetsNone, isLost, answerHere, steppedBy, refusedBy, movedBy, ruledAt, stepAt, lookAt, voiceAt, lsdAt};
-use reader::Reader;
-use reader::Report;
+ghost use Rattle.recording.specs.Refusals.{rulingOf};
+ghost use Rattle.recording.specs.Walk.{leftFrom, foundAgain, isLost, answerHere, steppedBy, stepAt, lookAt, voiceAt, lsdAt};
+ghost use Rattle.recording.specs.Inner.{offBlock, meetsNone, movedBy, ruledAt};
+use refusals::Refusal;
+use refusals::Ruling;
 use search::Found;
-
-// The rows of the refusal numbers that a step gives, in their order.
-pub enum Refusal {
-    BadState,
-    VoiceLength,
-    DataLength,
-    PastTheEnd,
-}
-
-pub enum Ruling {
-    Refuse(Refusal),
-    Go,
-}
+use track::Reader;
+use track::Report;
 
 // A block as the reader answers it, the place where alignment was found again, or the end and the octets left.
 pub enum Answer {
@@ -39,34 +29,13 @@ pub struct Stepped {
     pub lost: bool,
 }
 
-// Document 01's number of a refusal.
-pub fn number_of(r: Refusal) -> u8
-    ensures { λ n. ⌜ n ≡ numberOf r ⌝ }
-{
-    match r {
-        Refusal::BadState => 1,
-        Refusal::VoiceLength => 3,
-        Refusal::DataLength => 4,
-        Refusal::PastTheEnd => 9,
-    }
-}
-
+// The rows of a step at a place of a recording of `all` octets, with buffers of these lengths, in their order.
 fn ruling_of(all: usize, place: usize, s: Reader, voice: usize, lsd: usize) -> Ruling
     ensures { λ r. ⌜ r ≡ rulingOf all place s voice lsd ⌝ }
 {
-    if !reader::in_range(s) {
-        return Ruling::Refuse(Refusal::BadState);
-    }
-    if voice != 140 {
-        return Ruling::Refuse(Refusal::VoiceLength);
-    }
-    if lsd != 156 {
-        return Ruling::Refuse(Refusal::DataLength);
-    }
-    if (65_536 < all) | (all < place) {
-        return Ruling::Refuse(Refusal::PastTheEnd);
-    }
-    Ruling::Go
+    let one = refusals::judge(Ruling::Accept, Refusal::BadState, !track::in_range(s));
+    let four = buffers::judge_streams(one, voice, lsd);
+    refusals::judge(four, Refusal::BadRecording, (65_536 < all) | (all < place))
 }
 
 fn is_lost(report: Report) -> bool
@@ -74,21 +43,9 @@ fn is_lost(report: Report) -> bool
 {
     let standing = report.standing;
     match standing {
-        reader::Standing::Waiting => false,
-        reader::Standing::Read => false,
-        reader::Standing::Lost => true,
-    }
-}
-
-// The reader's refusal of a block, as a step's. It never refuses the block's length: a block has its 160 octets.
-fn refused_by(why: reader::Refusal) -> Refusal
-    ensures { λ r. ⌜ r ≡ refusedBy why ⌝ }
-{
-    match why {
-        reader::Refusal::BadState => Refusal::BadState,
-        reader::Refusal::LineLength => Refusal::BadState,
-        reader::Refusal::VoiceLength => Refusal::VoiceLength,
-        reader::Refusal::DataLength => Refusal::DataLength,
+        track::Standing::Waiting => false,
+        track::Standing::Read => false,
+        track::Standing::Lost => true,
     }
 }
 
@@ -103,11 +60,11 @@ fn moved_on(outcome: reader::Outcome, place: usize, lost: bool) -> Stepped
         reader::Answer::Block(report) => Stepped {
             answer: Answer::Block(report),
             reader: next,
-            place: place + 160,
+            place: place + buffers::LINE,
             lost: is_lost(report),
         },
         reader::Answer::Refused(why) => Stepped {
-            answer: Answer::Refused(refused_by(why)),
+            answer: Answer::Refused(why),
             reader: next,
             place: place,
             lost: lost,
@@ -144,7 +101,7 @@ fn off_block(all: usize, place: usize, lost: bool) -> bool
     if all < place {
         return true;
     }
-    (65_536 < all) | (lost | (all - place < 160))
+    (65_536 < all) | (lost | (all - place < buffers::LINE))
 }
 
 // A step that meets no block: after a lost block it searches, and else it is at the end.
@@ -163,7 +120,7 @@ fn seek_or_end(recording: &[u8], place: usize, lost: bool, s: Reader) -> Stepped
     }
 }
 
-// A step that meets no block, with buffers of such lengths: by its ruling.
+// A step that meets no block, with a voice buffer of `voice` octets and a data buffer of `lsd`: by its ruling.
 fn off_by_ruling(
     recording: &[u8],
     place: usize,
@@ -183,7 +140,7 @@ fn off_by_ruling(
             place: place,
             lost: lost,
         },
-        Ruling::Go => seek_or_end(recording, place, lost, s),
+        Ruling::Accept => seek_or_end(recording, place, lost, s),
     }
 }
 
@@ -204,7 +161,7 @@ pub fn step(
     if off_block(recording.len(), place, lost) {
         return off_by_ruling(recording, place, lost, s, voice.len(), lsd.len());
     }
-    let end = place + 160;
+    let end = place + buffers::LINE;
     let outcome = reader::read(s, &recording[place..end], voice, lsd);
     moved_on(outcome, place, lost)
 }
@@ -214,9 +171,9 @@ pub fn look(recording: &[u8], place: usize, lost: bool, s: Reader) -> Stepped
     ensures { λ r. ⌜ r ≡ lookAt (now (recording .entry)) place lost s ⌝ }
 {
     if off_block(recording.len(), place, lost) {
-        return off_by_ruling(recording, place, lost, s, 140, 156);
+        return off_by_ruling(recording, place, lost, s, buffers::VOICE, buffers::LSD);
     }
-    let end = place + 160;
+    let end = place + buffers::LINE;
     let outcome = reader::look(s, &recording[place..end]);
     moved_on(outcome, place, lost)
 }

@@ -11,8 +11,8 @@ use borrow.Author.Tests.{ltb-true, ltb-false}
 use lib.ListN.{length, getD, drop, length-append, List·getD-append}
 use lib.Seq.{getD-drop, getD-take, getD-append-add}
 use Rattle.bits.specs.Bits.{lowBits, number, digit, bitsOf}
-use Rattle.bits.specs.Crc.{summed, blockCrcOf}
-use Rattle.bits.proofs.CrcLaws.{crc-agree}
+use Rattle.crc.specs.Crc.{summed, blockCrcOf}
+use Rattle.crc.proofs.CrcLaws.{crc-agree}
 use Rattle.bits.proofs.PackLaws.{length-octets}
 use Rattle.bas.specs.Words.{wordBits, lineOrder}
 use Rattle.modes.specs.declared.Mode.{Mode}
@@ -36,8 +36,8 @@ module _ (p : Layout) (h : Apart p) (vs ds : List Bool) where
   octetOf bs k = getD (frameBy p (streams bs vs ds)) k 0
 
   -- its SC bit, and the number of the bits above
-  scBit : List Bool → ℕ → Bool
-  scBit bs k = getD (streams (drop k bs) [] (drop (k * p .columns + sc p k + p .columns) ds) (channelBy p (k + 1))) 0 true
+  scSent : List Bool → ℕ → Bool
+  scSent bs k = getD (streams (drop k bs) [] (drop (k * p .columns + sc p k + p .columns) ds) (channelBy p (k + 1))) 0 true
 
   above : ℕ → ℕ
   above k =
@@ -45,18 +45,18 @@ module _ (p : Layout) (h : Apart p) (vs ds : List Bool) where
       (number (nexts (p .width) (drop (k * p .width) vs)) * ones + (ones - 1)) * 2 ^ p .columns
       + number (nexts (p .columns) (drop (k * p .columns + sc p k) ds))
 
-  octet-is : (bs : List Bool) (k : ℕ) → k < 80 → octetOf bs k ≡ above k * 2 + digit (scBit bs k)
-  unfolding frameBy above scBit
+  octet-is : (bs : List Bool) (k : ℕ) → k < 80 → octetOf bs k ≡ above k * 2 + digit (scSent bs k)
+  unfolding frameBy above scSent
   octet-is bs k l =
       let s : Streams = streams bs vs ds in
       octet-done p s 80 k (h .within) l ∙ octet-at p k s refl h ∙ ap (λ (b : Bool). above k * 2 + digit b) (channel-next p k bs vs ds h)
 
   -- the service bits count no further than to the sixteenth
-  same-bit : (bs cs : List Bool) (k : ℕ) → (k < 16 → getD bs k true ≡ getD cs k true) → scBit bs k ≡ scBit cs k
-  unfolding scBit
+  same-bit : (bs cs : List Bool) (k : ℕ) → (k < 16 → getD bs k true ≡ getD cs k true) → scSent bs k ≡ scSent cs k
+  unfolding scSent
   same-bit bs cs k e = go (ltb k 16) refl
     where
-      go : (t : Bool) → ltb k 16 ≡ t → scBit bs k ≡ scBit cs k
+      go : (t : Bool) → ltb k 16 ≡ t → scSent bs k ≡ scSent cs k
       go true i =
           let l = ltb-true k 16 i in
           rw (channel-service p (k + 1) (omega arith), getD-drop k bs 0 true, getD-drop k cs 0 true, add-zero k) (e l)
@@ -73,7 +73,7 @@ module _ (p : Layout) (h : Apart p) (vs ds : List Bool) where
 
   same-above : (bs cs : List Bool) (k : ℕ) → k < 80 → octetOf bs k / 2 ≡ octetOf cs k / 2
   same-above bs cs k l =
-      let whole : (xs : List Bool) → octetOf xs k / 2 ≡ above k = λ xs. ap (λ (n : ℕ). n / 2) (octet-is xs k l) ∙ half (above k) (scBit xs k) in
+      let whole : (xs : List Bool) → octetOf xs k / 2 ≡ above k = λ xs. ap (λ (n : ℕ). n / 2) (octet-is xs k l) ∙ half (above k) (scSent xs k) in
       whole bs ∙ sym (whole cs)
 
   -- an odd frame as it is summed, with one remainder and with another: the octets that differ carry C1 to C4

@@ -17,7 +17,8 @@ use Rattle.service.specs.Channel.{channelBits}
 use Rattle.service.proofs.ChannelLaws.{length-channel}
 use Rattle.search.specs.Finding.{spells, aligned, firstOf, badLength, searchOf}
 use Rattle.search.specs.Groups.{firstFrom}
-use Rattle.search.specs.declared.Refusal.the-variants.{RecordingLength, NoPlace}
+use Rattle.refusals.specs.Numbers.{numberOf}
+use Rattle.refusals.specs.declared.Refusal.the-variants.{BadRecording, NoPlace}
 use Rattle.search.specs.declared.Found.{Found}
 use Rattle.search.specs.declared.Found.the-variants.{Place, Refused}
 
@@ -57,8 +58,7 @@ first-none at recording = none-left (length recording - at) at recording
 abbrev Says : ℕ → List ℕ → Found → Type 0
 Says at recording (Place p) =
     (aligned (drop p recording) ≡ true) × (at ≤ p) × ((q : ℕ) → at ≤ q → q < p → aligned (drop q recording) ≡ false)
-Says at recording (Refused NoPlace) = (q : ℕ) → at ≤ q → aligned (drop q recording) ≡ false
-Says at recording (Refused RecordingLength) = Unit {0}
+Says at recording (Refused why) = numberOf why ≡ numberOf NoPlace → (q : ℕ) → at ≤ q → aligned (drop q recording) ≡ false
 
 -- a place is the first one, which does not fit, or a later one
 not-the-first : (at q : ℕ) (recording : List ℕ) → aligned (drop at recording) ≡ false → at ≤ q
@@ -72,12 +72,11 @@ not-the-first at q recording a h later =
 one-earlier : (at : ℕ) (recording : List ℕ) (f : Found) → aligned (drop at recording) ≡ false → Says (at + 1) recording f → Says at recording f
 one-earlier at recording (Place p) a (fits, after, before) =
     (fits, omega arith, λ q h k. not-the-first at q recording a h (λ w. before q w k))
-one-earlier at recording (Refused NoPlace) a none = λ q h. not-the-first at q recording a h (none q)
-one-earlier at recording (Refused RecordingLength) a none = tt
+one-earlier at recording (Refused why) a none = λ e q h. not-the-first at q recording a h (none e q)
 
 first-says : (n at : ℕ) (recording : List ℕ) → length recording ≤ at + n → Says at recording (firstOf n at recording)
 unfolding firstOf
-first-says zero at recording h = λ q k. too-short (drop q recording) (omega (arith, length-drop q recording))
+first-says zero at recording h = λ e q k. too-short (drop q recording) (omega (arith, length-drop q recording))
 first-says (suc n) at recording h = step (aligned (drop at recording)) refl (first-says n (at + 1) recording (omega arith))
   where
     step : (b : Bool) → aligned (drop at recording) ≡ b → Says (at + 1) recording (firstOf n (at + 1) recording)
@@ -89,8 +88,8 @@ search-says : (recording : List ℕ) (start : ℕ) → Says start recording (sea
 unfolding searchOf
 search-says recording start = step (badLength recording start)
   where
-    step : (b : Bool) → Says start recording (cond b (Refused RecordingLength) (firstOf (length recording - start) start recording))
-    step true = tt
+    step : (b : Bool) → Says start recording (cond b (Refused BadRecording) (firstOf (length recording - start) start recording))
+    step true = λ e. absurd (omega arith)
     step false = first-says (length recording - start) start recording (omega arith)
 
 -- ---- the laws of document 01's sentence
@@ -116,7 +115,7 @@ found-smallest recording start p e = subst (Says start recording) e (search-says
 -- where there is said to be no such place, no place from the start on fits
 pub none-fits : (recording : List ℕ) (start : ℕ) → searchOf recording start ≡ Refused NoPlace
     → (q : ℕ) → start ≤ q → aligned (drop q recording) ≡ false
-none-fits recording start e = subst (Says start recording) e (search-says recording start)
+none-fits recording start e = subst (Says start recording) e (search-says recording start) refl
 
 -- where a place was found, the recording is not too long
 pub found-small : (recording : List ℕ) (start p : ℕ) → searchOf recording start ≡ Place p → length recording ≤ 65536
@@ -124,6 +123,6 @@ unfolding searchOf badLength
 found-small recording start p = go (ltb 65536 (length recording)) (ltb (length recording - start) 168) refl
   where
     go : (b d : Bool) → ltb 65536 (length recording) ≡ b
-        → cond (b || d) (Refused RecordingLength) (firstOf (length recording - start) start recording) ≡ Place p → length recording ≤ 65536
+        → cond (b || d) (Refused BadRecording) (firstOf (length recording - start) start recording) ≡ Place p → length recording ≤ 65536
     go true d e h = let z : _≡_ {A = ℕ} 0 1 = cc in absurd (omega arith)
     go false d e h = ltb-false 65536 (length recording) e

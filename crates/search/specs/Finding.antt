@@ -4,11 +4,11 @@ use mathlib.Core.List.{List}
 use Prim.Native.Nat.{ℕ, zero, suc, _+_, _-_}
 use lib.Dec.{eqb, leb, ltb}
 use lib.ListN.{length, getD, drop}
-use Rattle.bits.specs.Bits.{odd, number}
+use Rattle.bits.specs.Bits.{scBit, number}
+use Rattle.refusals.specs.Numbers.{numberOf}
+use Rattle.refusals.specs.declared.Refusal.the-variants.{BadRecording, NoPlace}
 use Rattle.service.specs.Service.{evenAlignment}
 use Rattle.service.specs.Channel.{channelBits}
-use Rattle.search.specs.declared.Refusal.{Refusal}
-use Rattle.search.specs.declared.Refusal.the-variants.{RecordingLength, NoPlace}
 use Rattle.search.specs.declared.Found.{Found}
 use Rattle.search.specs.declared.Found.the-variants.{Place, Refused}
 
@@ -18,7 +18,7 @@ spells at part = eqb (number (channelBits 7 at part)) (number evenAlignment)
 
 -- one place, with the recording from that place on: SC has 0011011 at offsets 1 to 7, 1 at 81, 0011011 at 161 to 167, all 168 octets inside
 unfoldable pub aligned : List ℕ → Bool
-aligned part = spells 1 part && odd (getD part 81 0) && spells 161 part && leb 168 (length part)
+aligned part = spells 1 part && scBit (getD part 81 0) && spells 161 part && leb 168 (length part)
 
 -- the smallest such place of the n from this one on; row 10: no such place
 unfoldable pub firstOf : ℕ → ℕ → List ℕ → Found
@@ -32,12 +32,7 @@ badLength recording start = ltb 65536 (length recording) || ltb (length recordin
 -- the search begins at a given octet of the recording; smaller number first
 unfoldable pub searchOf : List ℕ → ℕ → Found
 searchOf recording start =
-    cond (badLength recording start) (Refused RecordingLength) (firstOf (length recording - start) start recording)
-
--- document 01's number of each refusal
-abbrev pub numberOf : Refusal → ℕ
-numberOf RecordingLength = 9
-numberOf NoPlace = 10
+    cond (badLength recording start) (Refused BadRecording) (firstOf (length recording - start) start recording)
 
 -- what an answer stands for: the number of the refusal, 0 where a place is found; and that place, 0 where there is none
 abbrev pub foundNumber : Found → ℕ

@@ -4,7 +4,7 @@ use mathlib.Core.Bool.{Bool, true, not, _&&_}
 use mathlib.Core.List.{List, map}
 use Prim.Native.Nat.{ℕ, zero, suc, _+_, _-_, _*_, _/_, _^_, _<_}
 use lib.ListN.{length, getD, drop}
-use Rattle.bits.specs.Bits.{odd}
+use Rattle.bits.specs.Bits.{odd, scBit}
 use Rattle.search.specs.Finding.{aligned, firstOf}
 use Rattle.search.specs.declared.Found.{Found}
 
@@ -27,4 +27,4 @@ plane k part = map (λ (x : ℕ). x / 2 ^ k) part
 
 -- in the first n octets bit k has the SC of what stands 256 k octets further on
 abbrev pub Folded : ℕ → List ℕ → List ℕ → Type 0
-Folded n bits part = (i : ℕ) → i < n → EachBit (getD bits i 0) (λ k. odd (getD part (256 * k + i) 0))
+Folded n bits part = (i : ℕ) → i < n → EachBit (getD bits i 0) (λ k. scBit (getD part (256 * k + i) 0))

@@ -3,30 +3,15 @@ ghost use mathlib.Core.Path.{_≡_};
 ghost use mathlib.Core.Bool.{not};
 ghost use Prim.Native.Nat.{ℕ, _+_, _-_, _*_, _/_, _^_, _≤_, _<_};
 ghost use lib.ListN.{length, getD, drop};
-ghost use Rattle.bits.specs.Bits.{odd};
-ghost use Rattle.search.specs.Finding.{spells, aligned, numberOf, searchOf};
+ghost use Rattle.bits.specs.Bits.{odd, scBit};
+ghost use Rattle.search.specs.Finding.{spells, aligned, searchOf};
 ghost use Rattle.search.specs.Groups.{plane, EachBit, Folded, noneOf, firstFrom};
-
-// Why a search is refused, in the order of document 01's numbers.
-pub enum Refusal {
-    RecordingLength,
-    NoPlace,
-}
+use refusals::Refusal;
 
 // A place is an octet of the whole recording, counted from 0.
 pub enum Found {
     Place(usize),
     Refused(Refusal),
-}
-
-// Document 01's number of a refusal.
-pub fn number_of(r: Refusal) -> u8
-    ensures { λ n. ⌜ n ≡ numberOf r ⌝ }
-{
-    match r {
-        Refusal::RecordingLength => 9,
-        Refusal::NoPlace => 10,
-    }
 }
 
 // Where the seven octets from an offset on do not spell 0011011, each of their eight bits by itself: bit 0 is SC.
@@ -76,7 +61,7 @@ fn none_of(part: &[u8], places: usize) -> u8
 
 // The bits of an octet go up by one, and below them comes the SC bit of another octet.
 fn followed(bits: u8, octet: u8) -> u8
-    ensures { λ r. ⌜ (odd r ≡ odd octet) × ((k : ℕ) → k < 7 → odd (r / 2 ^ (k + 1)) ≡ odd (bits / 2 ^ k)) ⌝ }
+    ensures { λ r. ⌜ (odd r ≡ scBit octet) × ((k : ℕ) → k < 7 → odd (r / 2 ^ (k + 1)) ≡ odd (bits / 2 ^ k)) ⌝ }
 {
     bits % 128 * 2 + octet % 2
 }
@@ -84,7 +69,7 @@ fn followed(bits: u8, octet: u8) -> u8
 // The SC bits of eight octets that stand 256 apart, the first of them lowest.
 fn folded_at(part: &[u8], at: usize) -> u8
     requires { ⌜ at + 1793 ≤ length (now part) ⌝ }
-    ensures { λ r. ⌜ EachBit r (λ k. odd (getD (now (part .entry)) (256 * k + at) 0)) ⌝ }
+    ensures { λ r. ⌜ EachBit r (λ k. scBit (getD (now (part .entry)) (256 * k + at) 0)) ⌝ }
 {
     let mut bits: u8 = 0;
     for k in 0..8 {
@@ -95,7 +80,7 @@ fn folded_at(part: &[u8], at: usize) -> u8
 
 // The bits of an octet go down by one, and above them comes the SC bit of another octet.
 fn one_part_on(bits: u8, octet: u8) -> u8
-    ensures { λ r. ⌜ (odd (r / 2 ^ 7) ≡ odd octet) × ((k : ℕ) → k < 7 → odd (r / 2 ^ k) ≡ odd (bits / 2 ^ (k + 1))) ⌝ }
+    ensures { λ r. ⌜ (odd (r / 2 ^ 7) ≡ scBit octet) × ((k : ℕ) → k < 7 → odd (r / 2 ^ k) ≡ odd (bits / 2 ^ (k + 1))) ⌝ }
 {
     bits / 2 + octet % 2 * 128
 }
@@ -221,7 +206,7 @@ pub fn search(recording: &[u8], start: usize) -> Found
 {
     let all = recording.len();
     if (65_536 < all) | (octets_from(all, start) < 168) {
-        return Found::Refused(Refusal::RecordingLength);
+        return Found::Refused(Refusal::BadRecording);
     }
     first_from(recording, after_all_groups(recording, start))
 }

@@ -1,14 +1,14 @@
 // Frames voice from standard input into a recording on standard output. The arguments are calls, made one after the other from a fresh
 // state; each that is accepted gives a block of 160 octets, and standard error tells what became of each. Where a word is no call,
 // nothing is sent.
+use control::Answer;
+use control::Call;
+use control::Sender;
 use libc::STDERR_FILENO;
 use libc::STDIN_FILENO;
 use libc::STDOUT_FILENO;
 use modes::Mode;
 use modes::Owner;
-use sender::Answer;
-use sender::Call;
-use sender::Sender;
 
 // How far a word is read as a call.
 enum Stage {
@@ -245,7 +245,7 @@ fn put_answer(line: &mut [u8], at: usize, answer: Answer, block: u8, went: u8) -
         }
         Answer::Refused(why) => {
             place = text::put_all(line, place, b" refused ");
-            text::put_decimal(line, place, sender::number_of(why) as usize)
+            text::put_decimal(line, place, refusals::number_of(why) as usize)
         }
     }
 }
@@ -322,7 +322,7 @@ fn repeated(found: Session, call: Call, times: u16) -> Session {
 
 // Makes every call of the arguments. Whether each block was written.
 fn all_sent(count: usize) -> bool {
-    let fresh = sender::fresh();
+    let fresh = control::fresh();
     let mut session = Session {
         state: fresh,
         number: 1,

@@ -1,3 +1,1 @@
-pub mod GoesLaws
 pub mod OutcomeLaws
-pub mod RangeLaws

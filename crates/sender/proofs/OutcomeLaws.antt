@@ -1,61 +1,87 @@
--- What a call leaves, by its verdict, and that the contract allows one outcome alone.
+-- What a call leaves, by its ruling, and that the contract allows one outcome alone.
 use mathlib.Core.Path.{_≡_, refl, sym, _∙_}
-use mathlib.Core.Bool.{Bool, true, false, cond}
-use mathlib.Core.List.{List, [], _∷_}
+use mathlib.Core.Bool.{true}
+use mathlib.Core.List.{List}
 use Prim.Native.Nat.{ℕ}
+use lib.Dec.{leb}
 use lib.ListN.{length}
-use Rattle.bits.specs.Crc.{blockCrcOf}
-use Rattle.sender.specs.Rules.{ruleOf}
-use Rattle.sender.specs.Plans.{planBy}
-use Rattle.sender.specs.Refusals.{Row, numberOf, numberIn, rows, judge, firstNumber, refusalNumber, verdictOf}
-use Rattle.sender.specs.Step.{blockFor, nextBy, judged, outcomeBy, outcomeOf, lineOf, Told}
-use Rattle.sender.specs.declared.Sender.{Sender}
-use Rattle.sender.specs.declared.Call.{Call}
-use Rattle.sender.specs.declared.Plan.{Plan}
-use Rattle.sender.specs.declared.Rule.{Rule}
-use Rattle.sender.specs.declared.Rule.the-variants.{AsItem, MuteOff, Release, Offered}
-use Rattle.sender.specs.declared.Refusal.{Refusal}
-use Rattle.sender.specs.declared.Verdict.the-variants.{Refuse, Goes}
-use Rattle.sender.specs.declared.Answer.the-variants.{Refused}
+use Rattle.crc.specs.Crc.{blockCrcOf}
+use Rattle.crc.proofs.CrcLaws.{crc-low}
+use Rattle.refusals.specs.Rows.{rulingNumber}
+use Rattle.refusals.specs.declared.Refusal.{Refusal}
+use Rattle.refusals.specs.declared.Ruling.{Ruling}
+use Rattle.refusals.specs.declared.Ruling.the-variants.{Refuse, Accept}
+use Rattle.control.specs.State.{stateInRange}
+use Rattle.control.specs.Rules.{ruleOf}
+use Rattle.control.specs.Plans.{planBy}
+use Rattle.control.specs.Refusals.{numberIn}
+use Rattle.control.specs.Decisions.{nextBy, withRemainder, decisionBy, decisionOf}
+use Rattle.control.specs.declared.Sender.{Sender}
+use Rattle.control.specs.declared.Call.{Call}
+use Rattle.control.specs.declared.Rule.{Rule}
+use Rattle.control.specs.declared.Rule.the-variants.{AsItem, MuteOff, Release, Offered}
+use Rattle.control.specs.declared.Decision.{Decision}
+use Rattle.control.specs.declared.Answer.the-variants.{Refused}
+use Rattle.control.proofs.RangeLaws.{decided-in-range}
+use Rattle.sender.specs.Step.{blockFor, stateBy, lineBy, ruled, decided, outcomeOf, lineOf, Told}
 use Rattle.sender.specs.declared.Outcome.{Outcome}
 
--- the answer's number is that of the smallest row that is given
-number-judged : (rs : List Row) (rule : Rule) (s : Sender) (c : Call) (voice lsd : List ℕ)
-    → numberIn ((outcomeBy (judge rs rule) s c voice lsd) .answer) ≡ firstNumber rs
+-- the answer's number is that of the ruling: a word that goes is no refusal
+pub rule-number : (rule : Rule) (s : Sender) (code : ℕ) → numberIn ((planBy rule s code) .answer) ≡ 0
 unfolding planBy
-number-judged [] AsItem s c voice lsd = refl
-number-judged [] MuteOff s c voice lsd = refl
-number-judged [] Release s c voice lsd = refl
-number-judged [] Offered s c voice lsd = refl
-number-judged (r ∷ rs) rule s c voice lsd = go (r .given) (number-judged rs rule s c voice lsd)
-  where
-    go : (b : Bool) → numberIn ((outcomeBy (judge rs rule) s c voice lsd) .answer) ≡ firstNumber rs
-        → numberIn ((outcomeBy (cond b (Refuse (r .refusal)) (judge rs rule)) s c voice lsd) .answer) ≡ cond b (numberOf (r .refusal)) (firstNumber rs)
-    go true ih = refl
-    go false ih = ih
+rule-number AsItem s code = refl
+rule-number MuteOff s code = refl
+rule-number Release s code = refl
+rule-number Offered s code = refl
 
-number-is : (s : Sender) (c : Call) (voice lsd line : List ℕ)
-    → numberIn ((outcomeOf s c voice lsd line) .answer) ≡ refusalNumber s c (length line) (length voice) (length lsd)
-unfolding outcomeOf verdictOf refusalNumber
-number-is s c voice lsd line = number-judged (rows s c (length line) (length voice) (length lsd)) (ruleOf s (c .mute)) s c voice lsd
+decided-number : (q : Ruling) (s : Sender) (c : Call) → numberIn ((decisionBy q s c) .answer) ≡ rulingNumber q
+decided-number (Refuse r) s c = refl
+decided-number Accept s c = rule-number (ruleOf s (c .mute)) s (c .code)
 
 module _ (s : Sender) (c : Call) (voice lsd line : List ℕ) where
-  told : (r : Outcome) (l : List ℕ) → r ≡ outcomeOf s c voice lsd line → l ≡ lineOf s c voice lsd line → Told s c voice lsd line r l
-  told r l o e = record { outcome = o; octets = e; number = rw o (number-is s c voice lsd line) }
+  pub told : Told s c voice lsd line (outcomeOf s c voice lsd line) (lineOf s c voice lsd line)
+  unfolding outcomeOf decisionOf
+  told = record { outcome = refl; octets = refl; number = decided-number (ruled s c voice lsd line) s c }
 
-  pub refused-is : (q : Refusal) → judged s c voice lsd line ≡ Refuse q → Told s c voice lsd line (record { state = s; answer = Refused q }) line
+  -- so a program is told right that goes by what is decided: it leaves all as it was where a row refuses, and else writes the block
+  pub told-refused : (d : Decision) (q : Refusal) → d ≡ decided s c voice lsd line → d .ruling ≡ Refuse q
+      → Told s c voice lsd line (record { state = d .next; answer = d .answer }) line
   unfolding outcomeOf lineOf
-  refused-is q e = told _ _ (rw e) (rw e)
+  told-refused d q e r =
+      let h = rw e at r in
+      record { outcome = rw (e, h); octets = rw h; number = rw e (told .number) }
 
-  pub went-is : (q : Rule) (p : Plan) (block : List ℕ) (remainder : ℕ) (next : Sender)
-      → judged s c voice lsd line ≡ Goes q
-      → p ≡ planBy q s (c .code)
-      → block ≡ blockFor s c (p .word) voice lsd
-      → remainder ≡ blockCrcOf block
-      → next ≡ nextBy p s remainder
-      → Told s c voice lsd line (record { state = next; answer = p .answer }) block
+  pub told-went : (d : Decision) (block : List ℕ) → d ≡ decided s c voice lsd line → d .ruling ≡ Accept → block ≡ blockFor s c (d .word) voice lsd
+      → Told s c voice lsd line (record { state = withRemainder (d .next) (blockCrcOf block); answer = d .answer }) block
   unfolding outcomeOf lineOf
-  went-is q p block remainder next e a b r n = told _ _ (rw (e, n, r, b, a)) (rw (e, b, a))
+  told-went d block e r b =
+      let h = rw e at r in
+      record { outcome = rw (b, e, h); octets = rw (b, e, h); number = rw e (told .number) }
+
+  -- what a refused call leaves, and what an accepted one does
+  pub refused-is : (q : Refusal) → ruled s c voice lsd line ≡ Refuse q
+      → (outcomeOf s c voice lsd line ≡ record { state = s; answer = Refused q }) × (lineOf s c voice lsd line ≡ line)
+  unfolding outcomeOf lineOf decisionOf
+  refused-is q e = (rw e, rw e)
+
+  pub went-is : ruled s c voice lsd line ≡ Accept
+      → (let p = planBy (ruleOf s (c .mute)) s (c .code) in
+      let block = blockFor s c (p .word) voice lsd in
+      (outcomeOf s c voice lsd line ≡ record { state = withRemainder (nextBy p s) (blockCrcOf block); answer = p .answer })
+      × (lineOf s c voice lsd line ≡ block))
+  unfolding outcomeOf lineOf decisionOf
+  went-is e = (rw e, rw e)
+
+  -- a call on a state in range leaves one in range
+  pub stays-in-range : stateInRange s ≡ true → stateInRange ((outcomeOf s c voice lsd line) .state) ≡ true
+  unfolding outcomeOf decisionOf
+  stays-in-range r = go (ruled s c voice lsd line) refl
+    where
+      go : (q : Ruling) → ruled s c voice lsd line ≡ q → stateInRange ((outcomeOf s c voice lsd line) .state) ≡ true
+      go (Refuse q) e = rw e r
+      go Accept e =
+          let block = blockFor s c ((planBy (ruleOf s (c .mute)) s (c .code)) .word) voice lsd in
+          rw e (rw e at (decided-in-range s c (length line) (length voice) (length lsd) (blockCrcOf block) r (crc-low block) e))
 
 -- any two outcomes that the contract of a sending call allows are equal
 pub send-settled : (s : Sender) (c : Call) (voice lsd line : List ℕ) (r q : Outcome) (l k : List ℕ)

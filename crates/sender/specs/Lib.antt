@@ -1,5 +1,1 @@
-pub mod State
-pub mod Rules
-pub mod Plans
-pub mod Refusals
 pub mod Step

@@ -3,16 +3,16 @@ use mathlib.Core.Bool.{Bool, true}
 use mathlib.Core.List.{List, [], _∷_, _++_}
 use Prim.Native.Nat.{ℕ, zero, suc, _+_}
 use lib.ListN.{getD}
-use Rattle.bits.specs.Bits.{odd, number, xors}
-use Rattle.bits.specs.Crc.{firstC, howManyC}
+use Rattle.bits.specs.Bits.{scBit, number, xors}
+use Rattle.crc.specs.Crc.{firstC, howManyC}
 use Rattle.bas.specs.Words.{lineOrder}
 use Rattle.bas.specs.Reading.{weight}
 use Rattle.service.specs.Service.{evenAlignment}
 
--- the SC bits, bit 8 of n octets from the one at this place on, counted from 0; 0 past the end
+-- the SC bits of n octets from the one at this place on, counted from 0; 0 past the end
 unfoldable pub channelBits : ℕ → ℕ → List ℕ → List Bool
 channelBits zero at line = []
-channelBits (suc n) at line = odd (getD line at 0) ∷ channelBits n (at + 1) line
+channelBits (suc n) at line = scBit (getD line at 0) ∷ channelBits n (at + 1) line
 
 -- the alignment word: SC bits 2 to 8 of the even frame and SC bit 2 of the odd one
 unfoldable pub alignmentBits : List ℕ → List Bool
@@ -24,7 +24,7 @@ wrongBits line = weight (xors (alignmentBits line) (evenAlignment ++ (true ∷ [
 
 -- the odd frame's first bit
 unfoldable pub oddFirst : List ℕ → Bool
-oddFirst line = odd (getD line 80 0)
+oddFirst line = scBit (getD line 80 0)
 
 -- C1 to C4, C1 highest
 unfoldable pub cBits : List ℕ → ℕ

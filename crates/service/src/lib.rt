@@ -2,7 +2,7 @@
 ghost use mathlib.Core.Path.{_≡_};
 ghost use Prim.Native.Nat.{_≤_};
 ghost use lib.ListN.{getD};
-ghost use Rattle.bits.specs.Bits.{odd, octetBits, digit, number};
+ghost use Rattle.bits.specs.Bits.{scBit, octetBits, digit, number};
 ghost use Rattle.bas.specs.Reading.{weight};
 ghost use Rattle.service.specs.Service.{serviceRows};
 ghost use Rattle.service.specs.Channel.{channelBits, wrongBits, oddFirst, cBits, basWord};
@@ -42,7 +42,7 @@ pub fn service_rows(a: bool, e: bool, t: bool, remainder: u8) -> [[bool; 8]; 16]
 
 // The SC bit of the octet at a place, counted from 0; 0 past the end.
 fn sc_bit(line: &[u8], at: usize) -> u8
-    ensures { λ r. ⌜ (r ≡ digit (odd (getD (now (line .entry)) at 0))) × (r ≤ 1) ⌝ }
+    ensures { λ r. ⌜ (r ≡ digit (scBit (getD (now (line .entry)) at 0))) × (r ≤ 1) ⌝ }
 {
     if at < line.len() {
         return line[at] % 2;

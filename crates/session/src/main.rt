@@ -1,12 +1,12 @@
 // Runs one session of sending calls from a fresh state, with every rule of sending and every refusal number that a sending call can
 // give. What it prints is held to the file `stdout`, which the model in Rust writes from the same script.
 ghost use Prim.Native.Nat.{_≤_};
+use control::Answer;
+use control::Call;
+use control::Sender;
 use libc::STDOUT_FILENO;
 use modes::BlockNumber;
-use sender::Answer;
-use sender::Call;
 use sender::Outcome;
-use sender::Sender;
 
 // The calls, one to a row: the offered code in the upper octet, and the way it is made in the lower. The bits of a way: 01 mute, 02 A,
 // 04 E, 08 T, 10 a short line, 20 short voice, 40 short data, 80 a forged state.
@@ -170,7 +170,7 @@ fn print_answer(answer: Answer) {
         Answer::Held => text(b" held"),
         Answer::Refused(why) => {
             text(b" refused ");
-            decimal(sender::number_of(why) as u64);
+            decimal(refusals::number_of(why) as u64);
         }
     }
 }
@@ -258,7 +258,7 @@ fn after(s: Sender, k: usize, row: u16) -> Sender {
 }
 
 fn main() {
-    let mut state = sender::fresh();
+    let mut state = control::fresh();
     for i in 0..52 {
         state = after(state, i + 1, SCRIPT[i]);
     }

@@ -4,39 +4,40 @@ use mathlib.Core.Bool.{Bool, true, false, not, cond}
 use Prim.Native.Nat.{ℕ, _<_}
 use borrow.Author.Tests.{not-true}
 use Rattle.bits.proofs.Every.{below}
-use Rattle.modes.specs.Codes.{audioOff, lsdOff}
 use Rattle.modes.specs.Table.{audioTable, lsdTable, beside, audioPlaces, lsdPlaces}
 use Rattle.modes.specs.Owners.{holds, heldBy, some, clash, overlaps}
-use Rattle.modes.specs.Commands.{mode, inRange, commandOf, followed}
+use Rattle.modes.specs.Modes.{audioOff, lsdOff, off, withAudio, withLsd, inRange}
 use Rattle.modes.specs.declared.Mode.{Mode}
-use Rattle.modes.specs.declared.Command.{Command}
-use Rattle.modes.specs.declared.Command.the-variants.{Neutral, SetAudio, SetLsd, NoEffect}
-use Rattle.modes.proofs.ModeLaws.{Ranged, ranged, in-range, audio-code, lsd-code, audio-small, audio-off-apart, off-ranged}
+use Rattle.modes.proofs.ModeLaws.{Ranged, ranged, in-range, audio-small, audio-off-apart, cleared-voice, cleared-lsd, off-ranged}
+use Rattle.codes.specs.Commands.{commandOf, followed}
+use Rattle.codes.specs.declared.Command.{Command}
+use Rattle.codes.specs.declared.Command.the-variants.{Neutral, SetAudio, SetLsd, NoEffect}
+use Rattle.codes.proofs.CodeLaws.{audio-code, lsd-code}
 use Rattle.slots.specs.Readings.{obeyed}
 use Rattle.slots.specs.declared.Reading.{Reading}
 use Rattle.slots.specs.declared.Reading.the-variants.{Mended, Item, MessageWord, ForbiddenItem, NotFollowed, Unreadable, NotRead}
 
--- nothing overlaps data off: antt computes it at each value
-lsd-off-apart : (v : ℕ) → v < 32 → overlaps (mode v lsdOff) ≡ false
+-- where all else is off, audio overlaps nothing: antt computes it at each value
+lsd-off-apart : (v : ℕ) → v < 32 → overlaps (withAudio off v) ≡ false
 unfolding audioPlaces audioTable lsdPlaces lsdTable beside overlaps clash some holds heldBy
-lsd-off-apart v small = not-true _ (below 32 (λ (k : ℕ). not (overlaps (mode k lsdOff))) refl v small)
+lsd-off-apart v small = not-true _ (below 32 (λ (k : ℕ). not (overlaps (withAudio off k))) refl v small)
 
 module _ (code : ℕ) (m : Mode) (r : Ranged m) where
   by-command : (command : Command) → commandOf code ≡ command → Ranged (followed command m)
   unfolding followed
   by-command Neutral e = off-ranged
-  by-command (SetAudio v) e = go (overlaps (mode v (m .lsd))) refl
+  by-command (SetAudio v) e = rw (cleared-voice (withAudio m v)) (go (overlaps (withAudio m v)) refl)
     where
-      go : (b : Bool) → overlaps (mode v (m .lsd)) ≡ b → Ranged (cond b (mode v lsdOff) (mode v (m .lsd)))
+      go : (b : Bool) → overlaps (withAudio m v) ≡ b → Ranged (cond b (withLsd (withAudio m v) lsdOff) (withAudio m v))
       go true o =
           let a = audio-code code v e in
           record { spoken = a .listed; named = a .named; given = off-ranged .given; apart = lsd-off-apart v (audio-small v (a .listed)) }
       go false o =
           let a = audio-code code v e in
           record { spoken = a .listed; named = a .named; given = r .given; apart = o }
-  by-command (SetLsd v) e = go (overlaps (mode (m .audio) v)) refl
+  by-command (SetLsd v) e = rw (cleared-lsd (withLsd m v)) (go (overlaps (withLsd m v)) refl)
     where
-      go : (b : Bool) → overlaps (mode (m .audio) v) ≡ b → Ranged (cond b (mode audioOff v) (mode (m .audio) v))
+      go : (b : Bool) → overlaps (withLsd m v) ≡ b → Ranged (cond b (withAudio (withLsd m v) audioOff) (withLsd m v))
       go true o =
           let d = lsd-code code v e in
           record { spoken = off-ranged .spoken; named = off-ranged .named; given = d .listed; apart = audio-off-apart v }

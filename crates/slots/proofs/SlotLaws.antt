@@ -7,9 +7,9 @@ use native.Mathlib.Omega.{arith}
 use lib.Dec.{eqb, eqb·suc-zero}
 use lib.ListN.{length}
 use Rattle.bas.specs.declared.Word.{Word}
-use Rattle.modes.specs.Codes.{attribute}
 use Rattle.modes.specs.declared.Mode.{Mode}
-use Rattle.slots.specs.Slots.{wordsDue, dueAfter}
+use Rattle.codes.specs.Codes.{attribute}
+use Rattle.slots.specs.Slots.{wordsDue, dueAfter, slotOf, dueOf}
 use Rattle.slots.specs.Readings.{readingIn, obeyed}
 use Rattle.slots.specs.declared.Due.{Due}
 use Rattle.slots.specs.declared.Due.the-variants.{Plain, AnItem, N, Words}
@@ -57,3 +57,10 @@ pub message-no-command : (left : ℕ) (word : Word) (m : Mode) → obeyed (readi
 unfolding readingIn obeyed
 message-no-command left Word.Unreadable m = refl
 message-no-command left (Word.Code code) m = rw (eqb·suc-zero left)
+
+-- what is due, kept in a state, reads back
+pub due-back : (due : Due) → dueOf (slotOf due) ≡ due
+due-back Plain = refl
+due-back AnItem = refl
+due-back N = refl
+due-back (Words left) = refl

@@ -3,10 +3,10 @@ use mathlib.Core.Bool.{not, cond, _&&_}
 use Prim.Native.Nat.{ℕ}
 use lib.Dec.{leb, eqb}
 use Rattle.bas.specs.declared.Word.{Word}
-use Rattle.modes.specs.Codes.{attribute}
-use Rattle.modes.specs.Carried.{readerCarries}
-use Rattle.modes.specs.Commands.{commandOf, followed}
 use Rattle.modes.specs.declared.Mode.{Mode}
+use Rattle.codes.specs.Codes.{attribute}
+use Rattle.codes.specs.Carried.{readerCarries}
+use Rattle.codes.specs.Commands.{commandOf, followed}
 use Rattle.slots.specs.Slots.{standing}
 use Rattle.slots.specs.declared.Due.{Due}
 use Rattle.slots.specs.declared.Due.the-variants.{Plain, AnItem, N, Words}

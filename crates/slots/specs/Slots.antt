@@ -4,11 +4,12 @@ use mathlib.Core.Bool.{cond}
 use lib.Dec.{eqb}
 use Rattle.bas.specs.declared.Word.{Word}
 use Rattle.bas.specs.declared.Word.the-variants.{Code, Unreadable}
-use Rattle.modes.specs.Carried.{openingOf}
-use Rattle.modes.specs.declared.Opening.{Opening}
-use Rattle.modes.specs.declared.Opening.the-variants.{Nothing, Item, Message}
+use Rattle.codes.specs.Carried.{openingOf}
+use Rattle.codes.specs.declared.Opening.{Opening}
+use Rattle.codes.specs.declared.Opening.the-variants.{Nothing, Item, Message}
 use Rattle.slots.specs.declared.Due.{Due}
 use Rattle.slots.specs.declared.Due.the-variants.{Plain, AnItem, N, Words}
+use Rattle.slots.specs.declared.Slot.{Slot}
 
 -- (111)[0] to [23] make the next word an item; [24] stands alone; [25] to [31] open a message: the next word is N
 abbrev pub dueBy : Opening → Due
@@ -45,3 +46,16 @@ dueAfterStanding (Words left) word = wordsDue (left - 1)
 
 unfoldable pub dueAfter : Due → Word → Due
 dueAfter due word = dueAfterStanding (standing due) word
+
+-- how a state holds what is due; every value of its two numbers says something
+abbrev slot : ℕ → ℕ → Slot
+slot kind words = record { kind = kind; words = words }
+
+abbrev pub slotOf : Due → Slot
+slotOf Plain = slot 0 0
+slotOf AnItem = slot 1 0
+slotOf N = slot 2 0
+slotOf (Words left) = slot 3 left
+
+abbrev pub dueOf : Slot → Due
+dueOf s = cond (eqb (s .kind) 0) Plain (cond (eqb (s .kind) 1) AnItem (cond (eqb (s .kind) 2) N (Words (s .words))))

@@ -1,10 +1,10 @@
 // What a BAS word means where it stands, and what the word after it is due to be (document 01, 'Slots' and 'Reading a block').
 ghost use mathlib.Core.Path.{_≡_};
-ghost use Rattle.slots.specs.Slots.{dueBy, standing, wordsDue, lengthIn, openingIn, dueAfter};
+ghost use Rattle.slots.specs.Slots.{dueBy, standing, wordsDue, lengthIn, openingIn, dueAfter, slotOf, dueOf};
 ghost use Rattle.slots.specs.Readings.{plainReading, itemReading, codeReading, readingIn, obeyed};
 use bas::Word;
+use codes::Opening;
 use modes::Mode;
-use modes::Opening;
 
 // What the next word is due to be. No words of a message left is the same as a plain word.
 pub enum Due {
@@ -12,6 +12,13 @@ pub enum Due {
     AnItem,
     N,
     Words(u8),
+}
+
+// What is due, as a saved state holds it: kind 0 is a plain word, 1 an item, 2 N, and every other number a message with `words` left.
+#[repr(C)]
+pub struct Slot {
+    pub kind: u8,
+    pub words: u8,
 }
 
 // What a word was read as. All but the last two hold its code.
@@ -46,6 +53,38 @@ pub fn stand(due: Due) -> Due
     }
 }
 
+// What a slot holds.
+pub fn due_of(slot: Slot) -> Due
+    ensures { λ r. ⌜ r ≡ dueOf slot ⌝ }
+{
+    let kind = slot.kind;
+    if kind == 0 {
+        return Due::Plain;
+    }
+    if kind == 1 {
+        return Due::AnItem;
+    }
+    if kind == 2 {
+        return Due::N;
+    }
+    Due::Words(slot.words)
+}
+
+// What is due, in a slot.
+pub fn slot_of(due: Due) -> Slot
+    ensures { λ r. ⌜ r ≡ slotOf due ⌝ }
+{
+    match due {
+        Due::Plain => Slot { kind: 0, words: 0 },
+        Due::AnItem => Slot { kind: 1, words: 0 },
+        Due::N => Slot { kind: 2, words: 0 },
+        Due::Words(left) => Slot {
+            kind: 3,
+            words: left,
+        },
+    }
+}
+
 fn due_by(opening: Opening) -> Due
     ensures { λ r. ⌜ r ≡ dueBy opening ⌝ }
 {
@@ -61,7 +100,7 @@ fn opening_in(word: Word) -> Opening
     ensures { λ r. ⌜ r ≡ openingIn word ⌝ }
 {
     match word {
-        Word::Code(code) => modes::opening_of(code),
+        Word::Code(code) => codes::opening_of(code),
         Word::Unreadable => Opening::Nothing,
     }
 }
@@ -95,7 +134,7 @@ pub fn due_after(due: Due, word: Word) -> Due
 fn plain_reading(code: u8) -> Reading
     ensures { λ r. ⌜ r ≡ plainReading code ⌝ }
 {
-    let carried = modes::reader_carries(code);
+    let carried = codes::reader_carries(code);
     if (code / 32 <= 3) & !carried {
         return Reading::NotFollowed(code);
     }
@@ -137,7 +176,7 @@ pub fn obey(reading: Reading, mode: Mode) -> Mode
     ensures { λ r. ⌜ r ≡ obeyed reading mode ⌝ }
 {
     match reading {
-        Reading::Mended(code) => modes::follow(modes::command_of(code), mode),
+        Reading::Mended(code) => codes::follow(codes::command_of(code), mode),
         Reading::Item(_code) => mode,
         Reading::MessageWord(_code) => mode,
         Reading::ForbiddenItem(_code) => mode,

@@ -7,7 +7,7 @@ use lib.ListN.{length}
 use Rattle.bits.proofs.Settled.{settled}
 use Rattle.modes.specs.declared.Mode.{Mode}
 use Rattle.modes.specs.declared.Owner.the-variants.{Voice, Lsd}
-use Rattle.places.specs.Places.{fitting}
+use Rattle.buffers.specs.Lengths.{fitting}
 use Rattle.sorter.specs.Sorting.{sortedOf, voiceAfter, lsdAfter}
 
 module _ (m : Mode) (line voice lsd : List ℕ) where

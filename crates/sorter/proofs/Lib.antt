@@ -1,4 +1,2 @@
 pub mod SortLaws
-pub mod LaneLaws
-pub mod FillLaws
 pub mod HandLaws

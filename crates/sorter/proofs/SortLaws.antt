@@ -3,18 +3,17 @@ use mathlib.Core.Path.{_≡_, refl, ap, sym, _∙_}
 use mathlib.Core.Bool.{Bool, true, false, false≢true, cond}
 use mathlib.Core.Logic.{_⊎_, inl, inr, ⊎-elim}
 use mathlib.Core.List.{List, [], _++_, append-assoc, append-nil}
-use Prim.Native.Nat.{ℕ, zero, suc, _+_, _-_, _*_, _%_, _^_, _≤_, _<_}
-use native.Mathlib.Nat.{mod-eq-of-lt, mul-comm, add-zero, suc-add, zero-mul, suc-mul}
+use Prim.Native.Nat.{ℕ, zero, suc, _+_, _-_, _*_, _%_, _≤_, _<_}
+use native.Mathlib.Nat.{mod-eq-of-lt, mul-comm, add-zero, suc-add}
 use native.Mathlib.Numerals.{add-one}
 use native.Mathlib.Omega.{arith}
 use borrow.Author.Tests.{eqb-true, leb-true, leb-false, le-leb, lt-leb}
 use lib.Dec.{eqb, leb}
-use lib.ListN.{length, getD, take, drop, length-append, length-replicate, length-drop, length-take}
+use lib.ListN.{length, getD, take, drop, length-append, length-replicate}
 use lib.Seq.{drop-drop, take-add, drop-cons}
-use Rattle.bits.specs.Bits.{bitsOf, octetBits, number}
-use Rattle.bits.proofs.BitLaws.{number-lowBits, number-append}
+use Rattle.bits.specs.Bits.{bitsOf, octetBits}
 use Rattle.bits.proofs.Every.{and-left, and-right}
-use Rattle.bits.proofs.RunLaws.{drop-bitsOf, run-left, run-value, length-octet}
+use Rattle.bits.proofs.RunLaws.{drop-bitsOf, run-left, length-octet}
 use Rattle.modes.specs.declared.Owner.{Owner}
 use Rattle.modes.specs.declared.Owner.the-variants.{Service, Voice, Lsd, Nobody}
 use Rattle.places.specs.Streams.{same, sort}
@@ -22,7 +21,9 @@ use Rattle.places.specs.Layout.{Apart, columnsBy, channelBy, rowBy, rowsBy, inE
 use Rattle.places.specs.declared.Layout.{Layout}
 use Rattle.places.proofs.StreamLaws.{sort-append, sort-all, sort-none}
 use Rattle.places.proofs.LayoutLaws.{no-voice, length-row}
-use Rattle.sorter.specs.Filled.{blockRows, sofar, runs}
+use Rattle.packing.specs.Filled.{runs}
+use Rattle.packing.proofs.RunsLaws.{no-runs}
+use Rattle.sorter.specs.Sofar.{blockRows, sofar}
 
 -- ---- the run of a stream in an octet
 pub sort-voice : (p : Layout) (o : ℕ) (bs : List Bool) → sort Voice (rowBy p o) bs ≡ take (p .width) bs
@@ -65,9 +66,6 @@ pub sort-lsd-out : (p : Layout) (o : ℕ) (bs : List Bool) → p .width + p .col
     → sort Lsd (rowBy p o) bs ≡ take (p .columns) (drop (7 - p .columns) bs)
 sort-lsd-out p o bs h k = rw (sort-lsd p o bs h, not-lsd p o k, append-nil)
 
-pub length-run : (s n x : ℕ) → s + n ≤ 8 → length (take n (drop s (octetBits x))) ≡ n
-length-run s n x h = simp (length-take, length-drop, length-octet) (omega arith)
-
 -- ---- a block, octet by octet
 block-low : (p : Layout) (n : ℕ) → n ≤ 80 → blockRows p n ≡ rowsBy p n
 unfolding rowsBy
@@ -102,51 +100,6 @@ sofar-more p w line o s n h hn ho run =
     ap (λ (k : ℕ). sort w (blockRows p k) b) (add-one o) ∙ sort-append w (blockRows p o) (rowBy p (o % 80 + 1)) b
     ∙ ap (λ (l : List Bool). sofar p w line o ++ l)
     (rw (run (drop (length (blockRows p o)) b), at, here) (run-left s n (octetBits x) (bitsOf (drop (suc o) line)) fits))
-
--- ---- octets that hold one run
-pub length-runs : (s n : ℕ) (line : List ℕ) (o k : ℕ) → s + n ≤ 8 → length (runs s n line o k) ≡ k * n
-unfolding runs
-length-runs s n line o zero h = sym (zero-mul n)
-length-runs s n line o (suc k) h = rw (length-append, length-runs s n line o k h, length-run s n (getD line (o + k) 0) h, suc-mul)
-
-pub number-runs : (s n : ℕ) (line : List ℕ) (o k : ℕ) → s + n ≤ 8
-    → number (runs s n line o (k + 1)) ≡ number (runs s n line o k) * 2 ^ n + number (take n (drop s (octetBits (getD line (o + k) 0))))
-unfolding runs
-number-runs s n line o k h =
-    let run : List Bool = take n (drop s (octetBits (getD line (o + k) 0))) in
-    ap (λ (j : ℕ). number (runs s n line o j)) (add-one k) ∙ number-append (runs s n line o k) run
-    ∙ rw (length-run s n (getD line (o + k) 0) h)
-
--- more octets, after those from `from` to o
-runs-add : (s n : ℕ) (line : List ℕ) (o k j : ℕ) → runs s n line o (k + j) ≡ runs s n line o k ++ runs s n line (o + k) j
-unfolding runs
-runs-add s n line o k zero = rw (add-zero k) (sym (append-nil (runs s n line o k)))
-runs-add s n line o k (suc j) =
-    let e : k + suc j ≡ suc (k + j) = omega arith in
-    let f : o + (k + j) ≡ o + k + j = omega arith in
-    rw (e, f, runs-add s n line o k j) (append-assoc (runs s n line o k) (runs s n line (o + k) j) (take n (drop s (octetBits (getD line (o + k + j) 0)))))
-
-pub runs-on : (bs : List Bool) (s n : ℕ) (line : List ℕ) (from o j : ℕ) → from ≤ o
-    → bs ++ runs s n line from (o + j - from) ≡ (bs ++ runs s n line from (o - from)) ++ runs s n line o j
-runs-on bs s n line from o j h =
-    let e : o + j - from ≡ o - from + j = omega arith in
-    let f : from + (o - from) ≡ o = omega arith in
-    let more = runs-add s n line from (o - from) j in
-    rw e (ap (λ (l : List Bool). bs ++ l) (rw f at more) ∙ sym (append-assoc bs (runs s n line from (o - from)) (runs s n line o j)))
-
--- runs of no bits
-pub no-runs : (s : ℕ) (line : List ℕ) (o k : ℕ) → runs s 0 line o k ≡ []
-unfolding runs
-no-runs s line o zero = refl
-no-runs s line o (suc k) = rw (no-runs s line o k)
-
--- the last bit of an octet
-pub last-bit : (line : List ℕ) (o : ℕ) → number (runs 7 1 line o 1) ≡ getD line o 0 % 2
-unfolding runs
-last-bit line o =
-    let x : ℕ = getD line o 0 in
-    let e : o + 0 ≡ o = omega arith in
-    rw (e, run-value 7 1 (octetBits x) (rw length-octet (omega arith)), length-octet x, number-lowBits 8 x) (omega arith)
 
 pub sofar-runs : (p : Layout) (w : Owner) (line : List ℕ) (o s n k : ℕ) → p .width + p .columns ≤ 7 → s + n ≤ 8 → o + k ≤ length line
     → ((j : ℕ) → j < k → (bs : List Bool) → sort w (rowBy p ((o + j) % 80 + 1)) bs ≡ take n (drop s bs))

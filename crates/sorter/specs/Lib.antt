@@ -1,3 +1,2 @@
 pub mod Sorting
-pub mod Filled
-pub mod Lanes
+pub mod Sofar

@@ -8,7 +8,8 @@ use Rattle.modes.specs.declared.Mode.{Mode}
 use Rattle.modes.specs.declared.Owner.{Owner}
 use Rattle.modes.specs.declared.Owner.the-variants.{Voice, Lsd}
 use Rattle.places.specs.Streams.{sort}
-use Rattle.places.specs.Places.{places, fitting}
+use Rattle.places.specs.Places.{places}
+use Rattle.buffers.specs.Lengths.{fitting}
 
 -- an owner's bits out of a block, packed into n octets; past their end the octets are zero to the bit
 unfoldable pub sortedOf : Mode → Owner → ℕ → List ℕ → List ℕ

@@ -5,7 +5,7 @@ use mathlib.Core.List.{List}
 use Prim.Native.Nat.{ℕ}
 use denote.Ref.{now}
 use Rattle.bits.proofs.Settled.{settled}
-use Rattle.reader.specs.declared.Reader.{Reader}
+use Rattle.track.specs.declared.Reader.{Reader}
 use Rattle.recording.specs.Walk.{stepAt, voiceAt, lsdAt}
 use Rattle.recording.specs.declared.Stepped.{Stepped}
 use Rattle.recording.proofs.StepLaws.{Left, step-settled}

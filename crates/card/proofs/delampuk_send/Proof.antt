@@ -43,14 +43,14 @@ use denote.Triple.Table.{entered, cited}
 use denote.Triple.Walked.{says, Stays, stay-ref, stay-none, stay-none-slice, gave-slice, walkOf, AllGo, goes-ref, goes-none, goes-none-slice, goes-gave-slice, Walks, ends-at, walked, walk-meets}
 use denote.Exit.{yes}
 use Rattle.card.specs.Sending.{sent, lineSent}
-use Rattle.sender.specs.declared.Sender.{Sender}
+use Rattle.control.specs.declared.Sender.{Sender}
 use Rattle.card.specs.declared.SendStepped.{SendStepped}
-use Rattle.sender.proofs.Sender as T
-use Rattle.sender.proofs.Sender.Laws as T′
+use Rattle.control.proofs.Sender as T
+use Rattle.control.proofs.Sender.Laws as T′
 use Rattle.card.proofs.SendStepped as S
 use Rattle.card.proofs.SendStepped.Laws as S′
-use Rattle.card.proofs.SendAnswer as N
-use Rattle.card.proofs.SendAnswer.Laws as N′
+use Rattle.answers.proofs.SendAnswer as N
+use Rattle.answers.proofs.SendAnswer.Laws as N′
 use Rattle.card.proofs.send_step as send-step′
 use Rattle.card.proofs.send_step.Symbol as send-step-def
 use Rattle.card.proofs.send_step.Symbol.{name as #card·send-step}

@@ -7,7 +7,7 @@ use native.Mathlib.Omega.{arith}
 use denote.Ref.{now}
 use lib.ListN.{getD, drop}
 use Rattle.bits.specs.Bits.{bitsOf}
-use Rattle.frame.specs.Eight.{wordAt, tailAt}
+use Rattle.frame.specs.Parts.{wordAt, tailAt}
 use Rattle.frame.proofs.TailLaws.{by-runs, columns-to, columns-le, laid-before, laid-after}
 use borrow.Author.Needs.{needs}
 use Rattle.frame.proofs.data_eights.Statement.{statement}
@@ -16,8 +16,8 @@ use Rattle.frame.proofs.data_eights.Tie as tie
 cast-c : tie.Need-cast-c
 cast-c c = search needs
 
-lay-columns-requires : tie.Need-lay-columns-requires
-lay-columns-requires c κs = search needs
+lay-requires : tie.Need-lay-requires
+lay-requires c κs = search needs
 
 same-length : tie.Need-same-length
 same-length c = search needs
@@ -26,7 +26,7 @@ returns : tie.Need-returns
 returns c =
     let s = c .before .before .before .before .before .before .before .before .before in
     λ k l.
-    c .before .before .lay-columns .ensures .1 k (omega arith) l
+    c .before .before .lay .ensures .1 k (omega arith) l
     ∙ laid-before (s .args .p) (bitsOf (now (s .args .lsd))) k (s .args .d) (s .pre .1 .0) (s .pre .1 .1 .2) (inl (omega arith))
 
 cast-a : tie.Need-cast-a
@@ -41,50 +41,50 @@ cast-b c = search needs
 add-b : tie.Need-add-b
 add-b c = search needs
 
-lay-columns-requires-2 : tie.Need-lay-columns-requires-2
-lay-columns-requires-2 c κs =
+lay-requires-2 : tie.Need-lay-requires-2
+lay-requires-2 c κs =
     let s = c .before .before .before .before .before .before .before .before in
     let p = s .args .p in
     let a = (p .first - 1) / 8 in
     let ten : a ≤ 10 = omega (arith, s .pre .1 .0 .runs, s .pre .1 .0 .until) in (
-      (s .pre .0, omega arith, ten, omega arith),
+      (s .pre .0, omega arith, ten, omega arith, omega arith),
       omega (arith, columns-to (p .columns) 0 a (omega arith), columns-le (p .columns) a (omega arith) ten),
     )
 
 own-eights-requires : tie.Need-own-eights-requires
 own-eights-requires c κs = search needs
 
-mul-lay-columns : tie.Need-mul-lay-columns
-mul-lay-columns c =
+mul-lay : tie.Need-mul-lay
+mul-lay c =
     let s = c .before .before .before .before .before .before .before .before .before .before .before .before .before .before .before .before in
     let p = s .args .p in
     let b = (p .last + 7) / 8 in
     omega (arith, columns-le (p .columns) b (omega arith) (omega arith))
 
-add-lay-columns : tie.Need-add-lay-columns
-add-lay-columns c =
+add-lay : tie.Need-add-lay
+add-lay c =
     let s = c .before .before .before .before .before .before .before .before .before .before .before .before .before .before .before .before in
     let p = s .args .p in
     let b = (p .last + 7) / 8 in
     omega (arith, columns-le (p .columns) b (omega arith) (omega arith))
 
-sub-lay-columns : tie.Need-sub-lay-columns
-sub-lay-columns c = search needs
+sub-lay : tie.Need-sub-lay
+sub-lay c = search needs
 
-add-lay-columns-2 : tie.Need-add-lay-columns-2
-add-lay-columns-2 c =
+add-lay-2 : tie.Need-add-lay-2
+add-lay-2 c =
     let s = c .before .before .before .before .before .before .before .before .before .before .before .before .before .before .before .before in
     let p = s .args .p in
     let b = (p .last + 7) / 8 in
     omega (arith, columns-le (p .columns) b (omega arith) (omega arith))
 
-lay-columns-requires-3 : tie.Need-lay-columns-requires-3
-lay-columns-requires-3 c κs =
+lay-requires-3 : tie.Need-lay-requires-3
+lay-requires-3 c κs =
     let s = c .before .before .before .before .before .before .before .before .before .before .before .before .before .before .before .before in
     let p = s .args .p in
     let b = (p .last + 7) / 8 in
     let ten : b ≤ 10 = omega (arith, s .pre .1 .0 .until) in (
-      (c .before .before .before .own-eights .kept .0 ∙ c .before .before .before .before .before .before .before .lay-columns2 .kept .0 ∙ s .pre .0, ten, omega arith, omega arith),
+      (c .before .before .before .own-eights .kept .0 ∙ c .before .before .before .before .before .before .before .lay2 .kept .0 ∙ s .pre .0, ten, omega arith, omega arith, omega arith),
       omega (arith, s .pre .1 .0 .after, columns-to (p .columns) b 10 ten),
     )
 
@@ -100,10 +100,10 @@ returns-2 c =
     let a = (p .first - 1) / 8 in
     let b = (p .last + 7) / 8 in
     let bits = bitsOf (now (s .args .lsd)) in
-    let before = c .before .before .before .before .before .before .before .before .before .before .lay-columns2 .ensures in
+    let before = c .before .before .before .before .before .before .before .before .before .before .lay2 .ensures in
     let own = c .before .before .before .before .before .before .own-eights .ensures in
-    let after = c .before .before .lay-columns3 .ensures in
-    by-runs (λ k. getD (c .before .before .lay-columns3 .last .0) k 0) (wordAt (tailAt p [] (drop d bits))) a b
+    let after = c .before .before .lay3 .ensures in
+    by-runs (λ k. getD (c .before .before .lay3 .last .0) k 0) (wordAt (tailAt p [] (drop d bits))) a b
     (λ k l. after .0 k (omega (arith, ok .runs)) ∙ own .0 k l ∙ before .1 k (omega arith) l ∙ laid-before p bits k d ok (s .pre .1 .1 .2) (inr l))
     (λ k l m. after .0 k m ∙ own .1 k l m)
     (λ k l m. after .1 k l m ∙ laid-after p bits a b k d ok (s .pre .1 .1 .2) refl refl l)
@@ -113,19 +113,19 @@ data-eights-spec =
     tie.close
     (tie.spec
     cast-c
-    lay-columns-requires
+    lay-requires
     same-length
     returns
     cast-a
     sub-a
     cast-b
     add-b
-    lay-columns-requires-2
+    lay-requires-2
     own-eights-requires
-    mul-lay-columns
-    add-lay-columns
-    sub-lay-columns
-    add-lay-columns-2
-    lay-columns-requires-3
+    mul-lay
+    add-lay
+    sub-lay
+    add-lay-2
+    lay-requires-3
     same-length-2
     returns-2)

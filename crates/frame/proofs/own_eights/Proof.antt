@@ -6,9 +6,11 @@ use Prim.Native.Nat.{_+_, _-_, _*_, _≤_}
 use native.Mathlib.Nat.{mul-add, mul-one}
 use native.Mathlib.Omega.{arith}
 use denote.Ref.{now}
+use lib.ListN.{drop}
 use Rattle.bits.specs.Bits.{bitsOf}
 use Rattle.places.specs.Layout.{inEights}
 use Rattle.places.specs.declared.Layout.{Layout}
+use Rattle.frame.proofs.PartLaws.{eight-cut}
 use Rattle.frame.proofs.TailLaws.{columns-to, columns-le, laid-owned}
 use borrow.Author.Needs.{needs}
 use Rattle.frame.proofs.own_eights.Statement.{statement}
@@ -46,7 +48,7 @@ lay-requires c κs =
     let k = a .p .columns in
     let n : (a .b - a .a) * (k + 1) ≡ (a .b - a .a) * k + (a .b - a .a) = rw (mul-add (a .b - a .a) k 1, mul-one (a .b - a .a)) in
     let ordered : a .a ≤ a .b = omega (arith, s .pre .1 .0 .runs) in (
-      (s .pre .0 .0, ordered, omega arith, omega arith, omega arith, omega arith),
+      (s .pre .0 .0, ordered, omega arith, omega arith, omega arith),
       omega (arith, n, ordered, s .pre .1 .0 .after, columns-to k (a .a) (a .b) ordered, columns-le k (a .b) (omega arith) (omega arith)),
     )
 
@@ -63,19 +65,32 @@ returns c =
       λ k l m. call .1 k l m ∙ laid-owned (a .p) (bitsOf (now (a .lsd))) (a .a) (a .b) k (a .d) (s .pre .1 .0) (s .pre .1 .1 .2) t (s .pre .0 .1) (s .pre .0 .2) l m,
     )
 
+cast-cut : tie.Need-cast-cut
+cast-cut c = search needs
+
+cast-cut-2 : tie.Need-cast-cut-2
+cast-cut-2 c = search needs
+
 cut-requires : tie.Need-cut-requires
 cut-requires c κs =
-    let s = c .before .before .before .before .before .before in
+    let s = c .before .before .before .before .before .before .before .before in
     let a = s .args in
-    let f : inEights (a .p) ≡ false = sym (c .before .before .in-eights .ensures) ∙ c .before .if1 .left in
-    let after = s .pre .1 .0 .after in
-    ((s .pre .0 .0, omega arith, omega (arith, s .pre .1 .0 .runs), omega arith), (none (a .p) f (s .pre .1 .0 .even), after, omega arith, s .pre .1 .1 .0))
+    (s .pre .0 .0, omega (arith, s .pre .1 .0 .runs), omega arith, omega arith, s .pre .1 .1 .0)
 
 same-length-2 : tie.Need-same-length-2
 same-length-2 c = search needs
 
 returns-2 : tie.Need-returns-2
-returns-2 c = search needs
+returns-2 c =
+    let s = c .before .before .before .before .before .before .before .before .before .before .before in
+    let a = s .args in
+    let f : inEights (a .p) ≡ false = sym (c .before .before .before .before .before .before .before .in-eights .ensures) ∙ c .before .before .before .before .before .before .if1 .left in
+    let call = c .before .before .cut .ensures in (
+      call .0,
+      λ k l m.
+          call .1 k l m
+          ∙ eight-cut (a .p) (drop (a .d) (bitsOf (now (a .lsd)))) k (none (a .p) f (s .pre .1 .0 .even)) (omega (arith, s .pre .1 .0 .after)),
+    )
 
 pub own-eights-spec : {M : Type 1} → statement M
 own-eights-spec =
@@ -89,6 +104,8 @@ own-eights-spec =
     lay-requires
     same-length
     returns
+    cast-cut
+    cast-cut-2
     cut-requires
     same-length-2
     returns-2)

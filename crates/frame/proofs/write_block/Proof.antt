@@ -11,7 +11,7 @@ use Rattle.places.specs.Streams.{fill}
 use Rattle.frame.specs.Block.{heard, streams}
 use Rattle.places.specs.Layout.{rowsBy}
 use Rattle.places.specs.declared.Layout.{Layout}
-use Rattle.places.proofs.LengthLaws.{lengths}
+use Rattle.buffers.proofs.LengthLaws.{lengths}
 use Rattle.frame.proofs.BlockLaws.{told, block-is}
 use Rattle.places.proofs.LayoutLaws.{apart-of}
 use borrow.Author.Needs.{needs}

@@ -1,5 +1,5 @@
 -- `modes::in_range` meets its contract: code and definition are one expression.
-use Rattle.modes.specs.Commands.{inRange}
+use Rattle.modes.specs.Modes.{inRange}
 use Rattle.modes.proofs.OwnerLaws.{overlaps-is}
 use borrow.Author.Needs.{needs}
 use Rattle.modes.proofs.in_range.Statement.{statement}

@@ -2,7 +2,7 @@
 use mathlib.Core.Path.{sym, _∙_}
 use native.Mathlib.Omega.{arith}
 use Rattle.presets.specs.Presets.{presetWritten}
-use Rattle.sender.proofs.RangeLaws.{chosen-small, lsd-in-force-small}
+use Rattle.control.proofs.RangeLaws.{chosen-small, lsd-in-force-small}
 use borrow.Author.Needs.{needs}
 use Rattle.presets.proofs.write_preset.Statement.{statement}
 use Rattle.presets.proofs.write_preset.Tie as tie

@@ -6,8 +6,8 @@ use Prim.Native.Nat.{ℕ}
 use lib.ListN.{length, replicate}
 use Rattle.modes.specs.declared.Mode.{Mode}
 use Rattle.modes.specs.declared.Owner.the-variants.{Voice, Lsd}
-use Rattle.places.specs.Places.{fitting}
-use Rattle.places.proofs.LengthLaws.{lengths}
+use Rattle.buffers.specs.Lengths.{fitting}
+use Rattle.buffers.proofs.LengthLaws.{lengths}
 use Rattle.sorter.specs.Sorting.{sortedOf, voiceAfter, lsdAfter}
 use borrow.Author.Needs.{needs}
 use Rattle.reader.proofs.hand.Statement.{statement}

@@ -2,7 +2,7 @@
 use mathlib.Core.Path.{sym, _∙_}
 use Rattle.reader.specs.Step.{lookOf}
 use Rattle.reader.proofs.OutcomeLaws.{taken}
-use Rattle.reader.proofs.RangeLaws.{kept}
+use Rattle.track.proofs.RangeLaws.{kept}
 use borrow.Author.Needs.{needs}
 use Rattle.reader.proofs.look.Statement.{statement}
 use Rattle.reader.proofs.look.Tie as tie

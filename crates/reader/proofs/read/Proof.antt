@@ -2,7 +2,7 @@
 use mathlib.Core.Path.{sym, _∙_}
 use denote.Ref.{now}
 use Rattle.reader.proofs.OutcomeLaws.{taken, taken-fitting, refused-is, taken-is}
-use Rattle.reader.proofs.RangeLaws.{kept}
+use Rattle.track.proofs.RangeLaws.{kept}
 use borrow.Author.Needs.{needs}
 use Rattle.reader.proofs.read.Statement.{statement}
 use Rattle.reader.proofs.read.Tie as tie

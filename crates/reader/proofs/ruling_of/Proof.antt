@@ -1,33 +1,30 @@
--- `reader::ruling_of` meets its contract: four tests in their order.
-use borrow.Author.Tests.{eq-eqb, ne-eqb}
-use Rattle.reader.specs.Refusals.{rulingOf}
+-- `reader::ruling_of` meets its contract: its rows, judged in turn.
 use borrow.Author.Needs.{needs}
+use Rattle.refusals.proofs.RowLaws.{in-turn-is}
+use Rattle.reader.specs.Refusals.{rows, rulingOf}
 use Rattle.reader.proofs.ruling_of.Statement.{statement}
 use Rattle.reader.proofs.ruling_of.Tie as tie
 
 in-range-requires : tie.Need-in-range-requires
 in-range-requires c κs = search needs
 
+judge-requires : tie.Need-judge-requires
+judge-requires c κs = search needs
+
+judge-line-requires : tie.Need-judge-line-requires
+judge-line-requires c κs = search needs
+
+judge-streams-requires : tie.Need-judge-streams-requires
+judge-streams-requires c κs = search needs
+
 returns : tie.Need-returns
 unfolding rulingOf
-returns c = rw (← c .before .in-range .ensures, c .if1 .taken)
-
-returns-2 : tie.Need-returns-2
-unfolding rulingOf
-returns-2 c = rw (← c .before .before .in-range .ensures, c .before .if1 .left, ne-eqb _ _ (c .if2 .taken))
-
-returns-3 : tie.Need-returns-3
-unfolding rulingOf
-returns-3 c = rw (← c .before .before .before .in-range .ensures, c .before .before .if1 .left, eq-eqb _ _ (c .before .if2 .left), ne-eqb _ _ (c .if3 .taken))
-
-returns-4 : tie.Need-returns-4
-unfolding rulingOf
-returns-4 c = rw (← c .before .before .before .before .in-range .ensures, c .before .before .before .if1 .left, eq-eqb _ _ (c .before .before .if2 .left), eq-eqb _ _ (c .before .if3 .left), ne-eqb _ _ (c .if4 .taken))
-
-returns-5 : tie.Need-returns-5
-unfolding rulingOf
-returns-5 c = rw (← c .before .before .before .before .in-range .ensures, c .before .before .before .if1 .left, eq-eqb _ _ (c .before .before .if2 .left), eq-eqb _ _ (c .before .if3 .left), eq-eqb _ _ (c .if4 .left))
+returns c =
+    let a = c .before .before .before .before .args in
+    rw (c .judge-streams .ensures, c .before .judge-line .ensures, c .before .before .judge .ensures, c .before .before .before .in-range .ensures)
+    (in-turn-is (rows (a .s) (a .line) (a .voice) (a .lsd)))
 
 pub ruling-of-spec : {M : Type 1} → statement M
 ruling-of-spec =
-    tie.close (tie.spec in-range-requires returns returns-2 returns-3 returns-4 returns-5)
+    tie.close
+    (tie.spec in-range-requires judge-requires judge-line-requires judge-streams-requires returns)

@@ -15,14 +15,11 @@ is-lost-requires c κs = search needs
 enum-known-answer-2 : tie.Need-enum-known-answer-2
 enum-known-answer-2 c = search needs
 
-refused-by-requires : tie.Need-refused-by-requires
-refused-by-requires c κs = search needs
-
 returns : tie.Need-returns
 returns c = rw (c .is-lost .ensures, c .before .before .answer .given .1)
 
 returns-2 : tie.Need-returns-2
-returns-2 c = rw (c .refused-by .ensures, c .before .before .answer2 .given .1)
+returns-2 c = rw (c .before .answer2 .given .1)
 
 pub moved-on-spec : {M : Type 1} → statement M
 moved-on-spec =
@@ -32,6 +29,5 @@ moved-on-spec =
     add-t10
     is-lost-requires
     enum-known-answer-2
-    refused-by-requires
     returns
     returns-2)

@@ -13,11 +13,12 @@ use Rattle.modes.specs.declared.Mode.{Mode}
 use Rattle.modes.specs.declared.Owner.{Owner}
 use Rattle.modes.specs.declared.Owner.the-variants.{Voice, Lsd}
 use Rattle.places.specs.Streams.{sort}
-use Rattle.places.specs.Places.{places, fitting}
+use Rattle.places.specs.Places.{places}
+use Rattle.buffers.specs.Lengths.{fitting}
 use Rattle.places.specs.Layout.{Apart, layoutOf, rowsBy}
 use Rattle.places.specs.declared.Layout.{Layout}
 use Rattle.places.proofs.LayoutLaws.{rows-are, apart-of}
-use Rattle.places.proofs.LengthLaws.{lengths}
+use Rattle.buffers.proofs.LengthLaws.{lengths}
 use Rattle.sorter.specs.Sorting.{sortedOf}
 use Rattle.sorter.proofs.HandLaws.{left-alone, sorted-out}
 use Rattle.sorter.proofs.hand_out.Statement.{statement}

@@ -4,7 +4,7 @@ use mathlib.Core.Path.{refl, _∙_}
 use mathlib.Core.List.{[]}
 use denote.Ref.{now}
 use lib.ListN.{length}
-use Rattle.sorter.proofs.FillLaws.{cleared, filled-with}
+use Rattle.packing.proofs.FillLaws.{cleared, filled-with}
 use Rattle.sorter.proofs.sort_columns.Statement.{statement}
 use Rattle.sorter.proofs.sort_columns.Tie as tie
 

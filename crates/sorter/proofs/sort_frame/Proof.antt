@@ -5,7 +5,7 @@ use mathlib.Core.Logic.{inl, inr}
 use Prim.Native.Nat.{_+_, _-_}
 use denote.Ref.{now}
 use Rattle.modes.specs.declared.Owner.the-variants.{Lsd}
-use Rattle.sorter.specs.Filled.{sofar}
+use Rattle.sorter.specs.Sofar.{sofar}
 use Rattle.sorter.proofs.SortLaws.{lsd-without, lsd-with, whole-eights}
 use Rattle.sorter.proofs.sort_frame.Statement.{statement}
 use Rattle.sorter.proofs.sort_frame.Tie as tie

@@ -12,9 +12,10 @@ use Rattle.modes.specs.declared.Owner.{Owner}
 use Rattle.modes.specs.declared.Owner.the-variants.{Lsd}
 use Rattle.places.specs.Streams.{sort}
 use Rattle.places.specs.declared.Layout.{Layout}
-use Rattle.sorter.specs.Filled.{Filled, sofar}
+use Rattle.packing.specs.Filled.{Filled}
+use Rattle.packing.proofs.FillLaws.{cleared, filled-with}
+use Rattle.sorter.specs.Sofar.{sofar}
 use Rattle.sorter.proofs.SortLaws.{none-yet, bits-alone, lsd-bits, block-all}
-use Rattle.sorter.proofs.FillLaws.{cleared, filled-with}
 use Rattle.sorter.proofs.sort_with_sc.Statement.{statement}
 use Rattle.sorter.proofs.sort_with_sc.Tie as tie
 

@@ -1,0 +1,17 @@
+-- `codes::is_lsd` meets its contract: its attribute, and then the table says which values are listed.
+use borrow.Author.Needs.{needs}
+use borrow.Author.Tests.{eq-eqb, ne-eqb}
+use Rattle.codes.proofs.is_lsd.Statement.{statement}
+use Rattle.codes.proofs.is_lsd.Tie as tie
+
+returns : tie.Need-returns
+returns c = rw (ne-eqb _ _ (c .if1 .taken))
+
+lsd-places-requires : tie.Need-lsd-places-requires
+lsd-places-requires c κs = search needs
+
+returns-2 : tie.Need-returns-2
+returns-2 c = rw (c .lsd-places .ensures, eq-eqb _ _ (c .before .if1 .left))
+
+pub is-lsd-spec : {M : Type 1} → statement M
+is-lsd-spec = tie.close (tie.spec returns lsd-places-requires returns-2)

@@ -1,0 +1,3 @@
+pub mod Codes
+pub mod Carried
+pub mod Commands

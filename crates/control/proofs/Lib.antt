@@ -1,0 +1,2 @@
+pub mod GoesLaws
+pub mod RangeLaws

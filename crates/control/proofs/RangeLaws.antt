@@ -1,0 +1,103 @@
+-- What is decided of a state in range leaves one in range.
+use mathlib.Core.Path.{_≡_, refl, ap, _∙_}
+use mathlib.Core.Bool.{Bool, true, false, _&&_, _||_, or-true}
+use Prim.Native.Nat.{ℕ, _<_}
+use lib.Dec.{eqb, leb}
+use borrow.Author.Tests.{eq-eqb}
+use Rattle.bits.proofs.Every.{and-left, and-right, or-left-false, or-right-false}
+use Rattle.modes.specs.Owners.{within, overlaps}
+use Rattle.modes.specs.Modes.{audioOff, withAudio, withLsd, inRange}
+use Rattle.modes.proofs.ModeLaws.{following-low, Ranged, ranged, in-range, audio-small, lsd-small, off-ranged}
+use Rattle.codes.specs.Codes.{value}
+use Rattle.codes.specs.Commands.{commandOf, offered}
+use Rattle.codes.specs.declared.Command.{Command}
+use Rattle.codes.specs.declared.Command.the-variants.{Neutral, SetAudio, SetLsd, NoEffect}
+use Rattle.codes.proofs.CodeLaws.{audio-code, lsd-code}
+use Rattle.control.specs.State.{chosenMode, follows, stateInRange}
+use Rattle.control.specs.Rules.{ruleOf}
+use Rattle.control.specs.Plans.{planBy}
+use Rattle.control.specs.Refusals.{isAudio, isLsd, clashes, goesPlain, rulingOf}
+use Rattle.control.specs.Decisions.{nextBy, withRemainder, decisionOf}
+use Rattle.control.specs.declared.Sender.{Sender}
+use Rattle.control.specs.declared.Call.{Call}
+use Rattle.control.specs.declared.Rule.{Rule}
+use Rattle.control.specs.declared.Rule.the-variants.{AsItem, MuteOff, Release, Offered}
+use Rattle.refusals.specs.declared.Ruling.the-variants.{Accept}
+use Rattle.control.proofs.GoesLaws.{goes}
+
+-- ---- the parts of a state in range
+pub record Kept (s : Sender) : Type 0 where
+  pub ranges : Ranged (chosenMode s)
+  pub force : follows s ≡ true
+  pub block : within 1 8 (s .block .0) ≡ true
+  pub rest : leb (s .remainder) 15 ≡ true
+
+pub kept : (s : Sender) → stateInRange s ≡ true → Kept s
+unfolding stateInRange
+kept s t =
+    let a = inRange (chosenMode s) in
+    let b = follows s in
+    let c = within 1 8 (s .block .0) in
+    let d = leb (s .remainder) 15 in
+    let t3 = and-left (a && b && c) d t in
+    let t2 = and-left (a && b) c t3 in
+    record {
+      ranges = ranged (chosenMode s) (and-left a b t2);
+      force = and-right a b t2;
+      block = and-right (a && b) c t3;
+      rest = and-right (a && b && c) d t;
+    }
+
+pub keeps : (s : Sender) → Kept s → stateInRange s ≡ true
+unfolding stateInRange
+keeps s k = rw (in-range (chosenMode s) (k .ranges), k .force, k .block, k .rest)
+
+-- ---- what an offered command leaves
+module _ (s : Sender) (code rem : ℕ) (k : Kept s) (low : leb rem 15 ≡ true) (apart : clashes s code ≡ false) where
+  by-command : (m : Command) → commandOf code ≡ m
+      → Ranged (withAudio (offered m (s .mode)) ((offered m (chosenMode s)) .audio))
+      × ((eqb ((offered m (s .mode)) .audio) audioOff || eqb ((offered m (s .mode)) .audio) ((offered m (chosenMode s)) .audio)) ≡ true)
+  unfolding offered clashes
+  by-command Neutral e = (off-ranged, refl)
+  by-command (SetAudio v) e =
+      let a = audio-code code v e in
+      let none : overlaps (withAudio (s .mode) v) ≡ false =
+      ap (λ (n : ℕ). overlaps (withAudio (s .mode) n)) (a .is)
+      ∙ rw (a .kind) at (or-left-false (isAudio code && overlaps (withAudio (s .mode) (value code))) (isLsd code && overlaps (withLsd (chosenMode s) (value code))) apart) in
+      (record { spoken = a .listed; named = a .named; given = k .ranges .given; apart = none }, rw (eq-eqb v v refl, or-true))
+  by-command (SetLsd v) e =
+      let d = lsd-code code v e in
+      let none : overlaps (withLsd (chosenMode s) v) ≡ false =
+      ap (λ (n : ℕ). overlaps (withLsd (chosenMode s) n)) (d .is)
+      ∙ rw (d .kind) at (or-right-false (isAudio code && overlaps (withAudio (s .mode) (value code))) (isLsd code && overlaps (withLsd (chosenMode s) (value code))) apart) in
+      (record { spoken = k .ranges .spoken; named = k .ranges .named; given = d .listed; apart = none }, k .force)
+  by-command NoEffect e = (k .ranges, k .force)
+
+  offered-kept : Kept (withRemainder (nextBy (planBy Offered s code) s) rem)
+  unfolding planBy
+  offered-kept =
+      let both = by-command (commandOf code) refl in
+      record { ranges = both .0; force = both .1; block = following-low (s .block); rest = low }
+
+next-kept : (rule : Rule) (s : Sender) (code rem : ℕ) → Kept s → leb rem 15 ≡ true → (goesPlain rule ≡ true → clashes s code ≡ false)
+    → Kept (withRemainder (nextBy (planBy rule s code) s) rem)
+unfolding planBy
+next-kept AsItem s code rem k low apart = record { ranges = k .ranges; force = k .force; block = following-low (s .block); rest = low }
+next-kept MuteOff s code rem k low apart = record { ranges = k .ranges; force = refl; block = following-low (s .block); rest = low }
+next-kept Release s code rem k low apart =
+    record { ranges = k .ranges; force = rw (eq-eqb (s .chosen) (s .chosen) refl, or-true); block = following-low (s .block); rest = low }
+next-kept Offered s code rem k low apart = offered-kept s code rem k low (apart refl)
+
+-- whatever is decided of a state in range leaves one in range, with any remainder that is at most 15
+pub decided-in-range : (s : Sender) (c : Call) (line voice lsd rem : ℕ) → stateInRange s ≡ true → leb rem 15 ≡ true
+    → rulingOf s c line voice lsd ≡ Accept → stateInRange (withRemainder ((decisionOf s c line voice lsd) .next) rem) ≡ true
+unfolding decisionOf
+decided-in-range s c line voice lsd rem r low e =
+    rw e (keeps _ (next-kept (ruleOf s (c .mute)) s (c .code) rem (kept s r) low (goes s c line voice lsd e .apart)))
+
+-- ---- what a state in range holds is small
+pub chosen-small : (s : Sender) → stateInRange s ≡ true → s .chosen < 32
+chosen-small s r = audio-small (s .chosen) (kept s r .ranges .spoken)
+
+pub lsd-in-force-small : (s : Sender) → stateInRange s ≡ true → s .mode .lsd < 15
+lsd-in-force-small s r = lsd-small (s .mode .lsd) (kept s r .ranges .given)

@@ -1,0 +1,5 @@
+pub mod State
+pub mod Rules
+pub mod Plans
+pub mod Refusals
+pub mod Decisions

@@ -1,0 +1,3 @@
+pub mod CrcLaws
+pub mod FoldLaws
+pub mod SumLaws

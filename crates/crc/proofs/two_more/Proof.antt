@@ -1,0 +1,38 @@
+-- `crc::two_more` meets its contract: by its callees.
+use mathlib.Core.Path.{ap₂, _∙_}
+use Prim.Native.Nat.{ℕ}
+use lib.Bits.{bitXor}
+use Rattle.bits.specs.Bits.{lowBits}
+use Rattle.bits.specs.Remainder.{continued, remainder}
+use Rattle.crc.specs.Crc.{crc4Generator}
+use borrow.Author.Needs.{needs}
+use Rattle.crc.proofs.two_more.Statement.{statement}
+use Rattle.crc.proofs.two_more.Tie as tie
+
+eight-within-requires : tie.Need-eight-within-requires
+eight-within-requires c κs = search needs
+
+add-eight-within : tie.Need-add-eight-within
+add-eight-within c = search needs
+
+eight-within-requires-2 : tie.Need-eight-within-requires-2
+eight-within-requires-2 c κs = search needs
+
+sum-with-requires : tie.Need-sum-with-requires
+sum-with-requires c κs = search needs
+
+returns : tie.Need-returns
+returns c =
+    let before = remainder crc4Generator (lowBits 64 (c .before .before .before .before .args .sum)) in
+    c .sum-with .ensures
+    ∙ ap₂ (λ (x y : ℕ). continued crc4Generator before (lowBits 64 (bitXor x y))) (c .before .before .eight-within .ensures) (c .before .eight-within2 .ensures)
+
+pub two-more-spec : {M : Type 1} → statement M
+two-more-spec =
+    tie.close
+    (tie.spec
+    eight-within-requires
+    add-eight-within
+    eight-within-requires-2
+    sum-with-requires
+    returns)

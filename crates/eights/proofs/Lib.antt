@@ -1,0 +1,4 @@
+pub mod EightLaws
+pub mod SpreadLaws
+pub mod WordLaws
+pub mod RunLaws

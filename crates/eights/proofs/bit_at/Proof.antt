@@ -1,0 +1,39 @@
+-- `eights::bit_at` meets its contract: a bit lies within one octet.
+use mathlib.Core.Path.{_≡_, sym, ap, _∙_}
+use Prim.Native.Nat.{_+_, _-_, _/_, _%_, _≤_, _<_}
+use native.Mathlib.Omega.{arith}
+use denote.Ref.{now}
+use lib.ListN.{length, getD, drop, length-drop}
+use Rattle.bits.specs.Bits.{bitsOf, number}
+use Rattle.bits.proofs.BitLaws.{length-bitsOf}
+use Rattle.bits.proofs.RunLaws.{run-within}
+use Rattle.places.proofs.StreamLaws.{nexts-take}
+use Rattle.eights.proofs.EightLaws.{number-one}
+use borrow.Author.Needs.{needs}
+use Rattle.eights.proofs.bit_at.Statement.{statement}
+use Rattle.eights.proofs.bit_at.Tie as tie
+
+shared-slice-read-result : tie.Need-shared-slice-read-result
+shared-slice-read-result c = search needs
+
+cast-result : tie.Need-cast-result
+cast-result c = omega (arith, c .shared-slice-known .given (c .before .args .at / 8))
+
+sub-result : tie.Need-sub-result
+sub-result c = search needs
+
+shr-result : tie.Need-shr-result
+shr-result c = search needs
+
+returns : tie.Need-returns
+returns c =
+    let a = c .before .args in
+    let xs = now (a .buffer) in
+    let bits = drop (a .at) (bitsOf xs) in
+    let enough : 1 ≤ length bits = rw (length-drop (a .at) (bitsOf xs), length-bitsOf xs) (omega arith) in
+    let small : getD xs (a .at / 8) 0 < 256 = omega (arith, c .shared-slice-known .given (a .at / 8)) in
+    let up : 8 - (a .at % 8 + 1) ≡ 7 - a .at % 8 = omega arith in
+    sym (sym (number-one bits) ∙ ap number (nexts-take 1 bits enough) ∙ rw up at (run-within xs (a .at) 1 (omega arith) (omega arith) small))
+
+pub bit-at-spec : {M : Type 1} → statement M
+bit-at-spec = tie.close (tie.spec shared-slice-read-result cast-result sub-result shr-result returns)

@@ -1,0 +1,87 @@
+-- `eights::write_word` meets its contract: the loop's invariant: the first k octets of the number are written.
+use mathlib.Core.Path.{_≡_, sym, ap, _∙_}
+use mathlib.Core.List.{List}
+use Prim.Native.Nat.{ℕ, _+_, _-_, _≤_}
+use native.Mathlib.Omega.{arith}
+use denote.Ref.{now}
+use lib.ListN.{length, set, length-set}
+use lib.Seq.{paste, paste-zero}
+use Rattle.bits.proofs.Table.{entry}
+use Rattle.eights.specs.Eight.{octetIn, octetsIn}
+use Rattle.eights.proofs.RunLaws.{one-over}
+use borrow.Author.Needs.{needs}
+use Rattle.eights.proofs.write_word.Statement.{statement}
+use Rattle.eights.proofs.write_word.Tie as tie
+
+abbrev Inv-loop : tie.InvT-loop
+Inv-loop frame₀ o word k₀ frame k = (k ≤ 8) × (length frame ≡ length frame₀) × (frame ≡ paste frame₀ o (octetsIn word) k)
+
+abbrev μ-loop : tie.MeasureT-loop
+μ-loop frame₀ o word k₀ frame k = 8 - k
+
+loop-holds : tie.Need-loop-holds Inv-loop μ-loop
+loop-holds c = let a = c .args in (search needs, search needs, paste-zero (a .frame .now) (a .o) (octetsIn (a .word)))
+
+sub-frame : tie.Need-sub-frame Inv-loop μ-loop
+sub-frame c = search needs
+
+mul-frame : tie.Need-mul-frame Inv-loop μ-loop
+mul-frame c = search needs
+
+shr-frame : tie.Need-shr-frame Inv-loop μ-loop
+shr-frame c = search needs
+
+cast-frame : tie.Need-cast-frame Inv-loop μ-loop
+cast-frame c = search needs
+
+add-frame : tie.Need-add-frame Inv-loop μ-loop
+add-frame c = search needs
+
+slice-write-frame : tie.Need-slice-write-frame Inv-loop μ-loop
+slice-write-frame c = search needs
+
+add-k : tie.Need-add-k Inv-loop μ-loop
+add-k c = search needs
+
+loop-less : tie.Need-loop-less Inv-loop μ-loop
+loop-less c = search needs
+
+loop-again : tie.Need-loop-again Inv-loop μ-loop
+loop-again c =
+    let a = c .before .before .args in
+    let l = c .before .loop in (
+      omega arith,
+      simp length-set (l .inv .1),
+      ap (λ (f : List ℕ). set f (a .o + l .k) (octetIn (a .word) (l .k))) (l .inv .2)
+          ∙ one-over (a .frame .now) (a .o) (octetsIn (a .word)) (l .k) (octetIn (a .word) (l .k)) (omega arith) (omega arith)
+          (sym (entry 8 (octetIn (a .word)) 0 (l .k) (omega arith))),
+    )
+
+same-length : tie.Need-same-length Inv-loop μ-loop
+same-length c = search needs
+
+returns : tie.Need-returns Inv-loop μ-loop
+returns c =
+    let a = c .before .before .args in
+    let l = c .before .loop in
+    let e : l .k ≡ 8 = omega arith in
+    l .inv .2 ∙ ap (paste (now (a .frame)) (a .o) (octetsIn (a .word))) e
+
+pub write-word-spec : {M : Type 1} → statement M
+write-word-spec =
+    tie.close
+    (tie.spec
+    Inv-loop
+    μ-loop
+    loop-holds
+    sub-frame
+    mul-frame
+    shr-frame
+    cast-frame
+    add-frame
+    slice-write-frame
+    add-k
+    loop-less
+    loop-again
+    same-length
+    returns)

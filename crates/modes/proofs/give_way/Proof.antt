@@ -1,0 +1,56 @@
+-- `modes::give_way` meets its contract: the two owners' places are compared as ranges.
+use mathlib.Core.Path.{_≡_, sym, ap₂, _∙_}
+use mathlib.Core.Bool.{Bool}
+use Rattle.modes.specs.Owners.{heldBy, clash}
+use Rattle.modes.specs.Modes.{givenWay}
+use Rattle.modes.specs.declared.Mode.{Mode}
+use Rattle.modes.specs.declared.Owner.{Owner}
+use Rattle.modes.specs.declared.Places.{Places}
+use Rattle.modes.proofs.TableLaws.{held-fit}
+use Rattle.modes.proofs.OwnerLaws.{touching, clash-is}
+use borrow.Author.Needs.{needs}
+use Rattle.modes.proofs.give_way.Statement.{statement}
+use Rattle.modes.proofs.give_way.Tie as tie
+
+-- what the test has shown of the definition
+shown : (m : Mode) (o s : Owner) (p q : Places) (r b : Bool) → p ≡ heldBy m o → q ≡ heldBy m s → r ≡ touching p q → r ≡ b
+    → clash (heldBy m o) (heldBy m s) ≡ b
+shown m o s p q r b ep eq h t =
+    clash-is (heldBy m o) (heldBy m s) (held-fit m o) (held-fit m s) ∙ sym (ap₂ touching ep eq) ∙ sym h ∙ t
+
+held-by-requires : tie.Need-held-by-requires
+held-by-requires c κs = search needs
+
+held-by-requires-2 : tie.Need-held-by-requires-2
+held-by-requires-2 c κs = search needs
+
+touch-requires : tie.Need-touch-requires
+touch-requires c κs = search needs
+
+turn-off-requires : tie.Need-turn-off-requires
+turn-off-requires c κs = search needs
+
+returns : tie.Need-returns
+unfolding givenWay
+returns c =
+    let t = c .before .before in
+    let second = t .before in
+    rw (c .turn-off .ensures, shown _ _ _ _ _ _ _ (second .before .held-by .ensures) (second .held-by2 .ensures) (t .touch .ensures) (c .before .if1 .taken))
+
+returns-2 : tie.Need-returns-2
+unfolding givenWay
+returns-2 c =
+    let t = c .before in
+    let second = t .before in
+    rw (shown _ _ _ _ _ _ _ (second .before .held-by .ensures) (second .held-by2 .ensures) (t .touch .ensures) (c .if1 .left))
+
+pub give-way-spec : {M : Type 1} → statement M
+give-way-spec =
+    tie.close
+    (tie.spec
+    held-by-requires
+    held-by-requires-2
+    touch-requires
+    turn-off-requires
+    returns
+    returns-2)

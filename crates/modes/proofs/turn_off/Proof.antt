@@ -1,0 +1,49 @@
+-- `modes::turn_off` meets its contract: a case for each owner.
+use borrow.Author.Needs.{needs}
+use Rattle.modes.proofs.turn_off.Statement.{statement}
+use Rattle.modes.proofs.turn_off.Tie as tie
+
+enum-told : tie.Need-enum-told
+enum-told c = search needs
+
+enum-told-2 : tie.Need-enum-told-2
+enum-told-2 c = search needs
+
+with-audio-requires : tie.Need-with-audio-requires
+with-audio-requires c κs = search needs
+
+enum-told-3 : tie.Need-enum-told-3
+enum-told-3 c = search needs
+
+with-lsd-requires : tie.Need-with-lsd-requires
+with-lsd-requires c κs = search needs
+
+enum-told-4 : tie.Need-enum-told-4
+enum-told-4 c = search needs
+
+returns : tie.Need-returns
+returns c = rw (c .enum-told .given .1)
+
+returns-2 : tie.Need-returns-2
+returns-2 c = rw (c .before .enum-told2 .given .1, c .with-audio .ensures)
+
+returns-3 : tie.Need-returns-3
+returns-3 c = rw (c .before .enum-told3 .given .1, c .with-lsd .ensures)
+
+returns-4 : tie.Need-returns-4
+returns-4 c = rw (c .enum-told4 .given .1)
+
+pub turn-off-spec : {M : Type 1} → statement M
+turn-off-spec =
+    tie.close
+    (tie.spec
+    enum-told
+    enum-told-2
+    with-audio-requires
+    enum-told-3
+    with-lsd-requires
+    enum-told-4
+    returns
+    returns-2
+    returns-3
+    returns-4)

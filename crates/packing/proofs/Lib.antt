@@ -1,0 +1,3 @@
+pub mod RunsLaws
+pub mod LaneLaws
+pub mod FillLaws

@@ -1,0 +1,41 @@
+-- `slots::slot_of` meets its contract: a case for each kind of slot.
+use borrow.Author.Needs.{needs}
+use Rattle.slots.proofs.slot_of.Statement.{statement}
+use Rattle.slots.proofs.slot_of.Tie as tie
+
+enum-told : tie.Need-enum-told
+enum-told c = search needs
+
+enum-told-2 : tie.Need-enum-told-2
+enum-told-2 c = search needs
+
+enum-told-3 : tie.Need-enum-told-3
+enum-told-3 c = search needs
+
+enum-known-due : tie.Need-enum-known-due
+enum-known-due c = search needs
+
+returns : tie.Need-returns
+returns c = rw (c .enum-told .given .1)
+
+returns-2 : tie.Need-returns-2
+returns-2 c = rw (c .enum-told2 .given .1)
+
+returns-3 : tie.Need-returns-3
+returns-3 c = rw (c .enum-told3 .given .1)
+
+returns-4 : tie.Need-returns-4
+returns-4 c = rw (c .before .due .given .1)
+
+pub slot-of-spec : {M : Type 1} → statement M
+slot-of-spec =
+    tie.close
+    (tie.spec
+    enum-told
+    enum-told-2
+    enum-told-3
+    enum-known-due
+    returns
+    returns-2
+    returns-3
+    returns-4)

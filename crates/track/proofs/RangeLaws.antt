@@ -1,0 +1,139 @@
+-- A block read on a state in range leaves one in range.
+use mathlib.Core.Path.{_≡_, refl}
+use mathlib.Core.Bool.{Bool, true, false, cond, _&&_}
+use mathlib.Core.List.{List}
+use Prim.Native.Nat.{ℕ, _+_, _≤_}
+use native.Mathlib.Omega.{arith}
+use lib.Dec.{eqb, leb}
+use borrow.Author.Tests.{eqb-false, leb-true, le-leb}
+use Rattle.crc.proofs.CrcLaws.{crc-low}
+use Rattle.bits.proofs.Every.{and-left, and-right}
+use Rattle.modes.specs.Numbers.{following}
+use Rattle.modes.specs.Modes.{audioOff, lsdOff, off, mode, inRange}
+use Rattle.modes.proofs.ModeLaws.{following-low, in-range, off-ranged}
+use Rattle.slots.specs.Readings.{obeyed}
+use Rattle.slots.specs.declared.Due.{Due}
+use Rattle.slots.specs.declared.Due.the-variants.{Plain}
+use Rattle.slots.proofs.RangeLaws.{obeyed-in-range}
+use Rattle.track.specs.State.{known, stateInRange, freshIn}
+use Rattle.track.specs.Signs.{signsOf}
+use Rattle.track.specs.Parts.{counted, wrongRun, modeBefore, readingOf, sought, compared, multiframeAfter}
+use Rattle.track.specs.Step.{nextOf, stepOf}
+use Rattle.track.specs.declared.Reader.{Reader}
+use Rattle.track.specs.declared.Signs.{Signs}
+use Rattle.track.specs.declared.Multiframe.{Multiframe}
+
+-- ---- the parts of a state in range
+pub record Kept (s : Reader) : Type 0 where
+  pub force : inRange (s .mode) ≡ true
+  pub back : inRange (s .kept) ≡ true
+  pub wrong-low : s .wrong ≤ 2
+  pub misses-low : s .misses ≤ 2
+  pub rest : leb (s .remainder) 15 ≡ true
+  pub place : s .block .0 ≤ 8
+
+pub kept : (s : Reader) → stateInRange s ≡ true → Kept s
+unfolding stateInRange
+kept s t =
+    let a = inRange (s .mode) in
+    let b = inRange (s .kept) in
+    let c = leb (s .wrong) 2 in
+    let d = leb (s .misses) 2 in
+    let e = leb (s .remainder) 15 in
+    let f = leb (s .block .0) 8 in
+    let t5 = and-left (a && b && c && d && e) f t in
+    let t4 = and-left (a && b && c && d) e t5 in
+    let t3 = and-left (a && b && c) d t4 in
+    let t2 = and-left (a && b) c t3 in
+    record {
+      force = and-left a b t2;
+      back = and-right a b t2;
+      wrong-low = leb-true (s .wrong) 2 (and-right (a && b) c t3);
+      misses-low = leb-true (s .misses) 2 (and-right (a && b && c) d t4);
+      rest = and-right (a && b && c && d) e t5;
+      place = leb-true (s .block .0) 8 (and-right (a && b && c && d && e) f t);
+    }
+
+keeps : (s : Reader) → Kept s → stateInRange s ≡ true
+unfolding stateInRange
+keeps s k =
+    rw (k .force, k .back, le-leb (s .wrong) 2 (k .wrong-low), le-leb (s .misses) 2 (k .misses-low), k .rest, le-leb (s .block .0) 8 (k .place))
+
+-- ---- runs, modes and places
+-- a run that is not at 3 now is at most 2
+low-run : (run : ℕ) (right : Bool) → run ≤ 2 → eqb (counted run right) 3 ≡ false → counted run right ≤ 2
+low-run run true l e = omega arith
+low-run run false l e = let n = eqb-false (run + 1) 3 e in omega arith
+
+before-kept : (s : Reader) → Kept s → inRange (modeBefore s) ≡ true
+before-kept s k = go (eqb (s .wrong) 0)
+  where
+    go : (b : Bool) → inRange (cond b (s .mode) (s .kept)) ≡ true
+    go true = k .force
+    go false = k .back
+
+fresh-kept : (s : Reader) → Kept s → Kept (freshIn (modeBefore s))
+fresh-kept s k =
+    let m = before-kept s k in
+    record { force = m; back = m; wrong-low = omega arith; misses-low = omega arith; rest = refl; place = omega arith }
+
+Low : Multiframe → Type 0
+Low p = (p .misses ≤ 2) × (p .block .0 ≤ 8)
+
+compared-low : (misses : ℕ) (right : Bool) (due : Due) → misses ≤ 2 → Low (compared misses right due)
+unfolding Low
+compared-low misses right due l = go (eqb (counted misses right) 3) refl
+  where
+    go : (b : Bool) → eqb (counted misses right) 3 ≡ b
+        → Low (cond b (record { block = record { 0 = 0 }; misses = 0; due = Plain }) (record { block = record { 0 = 7 }; misses = counted misses right; due = due }))
+    go true e = (omega arith, omega arith)
+    go false e = (low-run misses right l e, omega arith)
+
+sought-low : (right : Bool) → (sought right) .0 ≤ 8
+sought-low true = omega arith
+sought-low false = omega arith
+
+place-low : (s : Reader) (right : Bool) (due : Due) → s .misses ≤ 2 → Low (multiframeAfter s right due)
+unfolding Low multiframeAfter
+place-low s right due l = go (known s) (eqb (s .block .0) 6)
+  where
+    go : (k six : Bool)
+        → Low (cond k (cond six (compared (s .misses) right due) (record { block = following (s .block); misses = s .misses; due = due })) (record { block = sought right; misses = s .misses; due = due }))
+    go true true = compared-low (s .misses) right due l
+    go true false =
+        let n = (following (s .block)) .0 in
+        (l, leb-true n 8 (and-right (leb 1 n) (leb n 8) (following-low (s .block))))
+    go false six = (l, sought-low right)
+
+-- ---- the step
+module _ (s : Reader) (g : Signs) (k : Kept s) (low : leb (g .remainder) 15 ≡ true) where
+  next-kept : eqb (wrongRun s g) 3 ≡ false → Kept (nextOf s g (wrongRun s g))
+  unfolding nextOf Low
+  next-kept e =
+      let reading = readingOf s (g .word) in
+      let m = obeyed-in-range reading (s .mode) (k .force) in
+      let p = place-low s _ _ (k .misses-low) in
+      record { force = m; back = back-kept (eqb (g .wrong) 0) m; wrong-low = low-run (s .wrong) (eqb (g .wrong) 0) (k .wrong-low) e; misses-low = p .0; rest = low; place = p .1 }
+    where
+      back-kept : (b : Bool) → inRange (obeyed (readingOf s (g .word)) (s .mode)) ≡ true
+          → inRange (cond b (obeyed (readingOf s (g .word)) (s .mode)) (modeBefore s)) ≡ true
+      back-kept true m = m
+      back-kept false m = before-kept s k
+
+  step-kept : Kept ((stepOf s g) .state)
+  unfolding stepOf
+  step-kept = go (eqb (wrongRun s g) 3) refl
+    where
+      go : (b : Bool) → eqb (wrongRun s g) 3 ≡ b → Kept ((stepOf s g) .state)
+      go true e = rw e (fresh-kept s k)
+      go false e = rw e (next-kept e)
+
+-- a fresh state is in range
+pub fresh-in-range : stateInRange (freshIn off) ≡ true
+fresh-in-range =
+    let m = in-range (mode audioOff lsdOff) off-ranged in
+    keeps _ (record { force = m; back = m; wrong-low = omega arith; misses-low = omega arith; rest = refl; place = omega arith })
+
+-- a block taken on a state in range leaves one in range
+pub step-in-range : (s : Reader) (line : List ℕ) → stateInRange s ≡ true → stateInRange ((stepOf s (signsOf line)) .state) ≡ true
+step-in-range s line r = keeps _ (step-kept s (signsOf line) (kept s r) (crc-low line))

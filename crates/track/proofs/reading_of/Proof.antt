@@ -1,0 +1,20 @@
+-- `track::reading_of` meets its contract: the place is known, or not.
+use borrow.Author.Tests.{eq-eqb, ne-eqb}
+use borrow.Author.Needs.{needs}
+use Rattle.track.proofs.reading_of.Statement.{statement}
+use Rattle.track.proofs.reading_of.Tie as tie
+
+returns : tie.Need-returns
+returns c = rw (eq-eqb _ _ (c .if1 .taken))
+
+due-of-requires : tie.Need-due-of-requires
+due-of-requires c κs = search needs
+
+reading-in-requires : tie.Need-reading-in-requires
+reading-in-requires c κs = search needs
+
+returns-2 : tie.Need-returns-2
+returns-2 c = rw (c .reading-in .ensures, c .before .due-of .ensures, ne-eqb _ _ (c .before .before .if1 .left))
+
+pub reading-of-spec : {M : Type 1} → statement M
+reading-of-spec = tie.close (tie.spec returns due-of-requires reading-in-requires returns-2)

@@ -1,0 +1,4 @@
+pub mod State
+pub mod Signs
+pub mod Parts
+pub mod Step
