@@ -114,7 +114,7 @@ sentSince block = take (block - 1) (false ∷ false ∷ true ∷ false ∷ true 
 abbrev pub lastSix : List Bool → List Bool
 lastSix bits = drop (length bits - 6) bits
 
--- the reader keeps first bits as a number: so many of its low bits spell those that were sent
+-- the reader keeps first bits as a number: its low bits, as many as there are of these, spell those that were sent
 abbrev pub KeptAsSent : ℕ → ℕ → Type 0
 KeptAsSent block firsts = firsts % 2 ^ length (lastSix (sentSince block)) ≡ number (lastSix (sentSince block))
 
@@ -224,7 +224,7 @@ readerOn zero r es = r
 readerOn (suc n) r [] = r
 readerOn (suc n) r (e ∷ es) = readerOn n (readerAfter r e) es
 
--- a reader that begins to read at any block knows its place after so many, where a plain word is due then; its mode is still the one that it
+-- a reader that begins to read at any block knows its place after `untilSix` blocks, where a plain word is due then; its mode is still the one that it
 -- began with, since it read no word
 abbrev pub FindsPlace : Type 0
 FindsPlace = (s : Sender) (r : Reader) (xs : List Turn) → sending.stateInRange s ≡ true → EightBits xs → Waits r

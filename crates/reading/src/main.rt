@@ -26,7 +26,7 @@ const FILLED: u8 = 0xAA;
 // More recordings than any collection holds, so that the count of them ends.
 const MOST: u64 = 0xFFFF_FFFF;
 
-// How the collection goes on: with a recording of so many blocks, or not at all.
+// How the collection goes on: with a recording, and how many blocks it has, or not at all.
 enum Ahead {
     Blocks(u8),
     End,

@@ -132,7 +132,7 @@ fn octets_from(all: usize, start: usize) -> usize
     0
 }
 
-// Where the search goes on after groups of so many places, so many groups at most: as far as they are whole and without alignment.
+// Where the search goes on after at most `groups` groups of `places` places: as far as they are whole and without alignment.
 fn after_groups(recording: &[u8], start: usize, places: usize, groups: usize) -> usize
     requires { ⌜ places ≤ 2048 ⌝ }
     ensures { λ r. ⌜ firstFrom r (now (recording .entry)) ≡ firstFrom start (now (recording .entry)) ⌝ }

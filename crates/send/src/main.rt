@@ -309,7 +309,7 @@ fn made(session: Session, call: Call) -> Session {
     }
 }
 
-// A call, so many times, as long as its blocks are written.
+// A call, repeated as its word says, as long as its blocks are written.
 fn repeated(found: Session, call: Call, times: u16) -> Session {
     let mut session = found;
     for i in 0..times {

@@ -161,7 +161,7 @@ fn code_reading(due: Due, code: u8) -> Reading
     }
 }
 
-// What a word is read as, where so much is due.
+// What a word is read as, where `due` is due.
 pub fn reading_in(due: Due, word: Word) -> Reading
     ensures { λ r. ⌜ r ≡ readingIn due word ⌝ }
 {
