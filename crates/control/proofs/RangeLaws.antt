@@ -1,6 +1,6 @@
 -- What is decided of a state in range leaves one in range.
 use mathlib.Core.Path.{_≡_, refl, ap, _∙_}
-use mathlib.Core.Bool.{Bool, true, false, _&&_, _||_, or-true}
+use mathlib.Core.Bool.{true, false, _&&_, _||_, or-true}
 use Prim.Native.Nat.{ℕ, _<_}
 use lib.Dec.{eqb, leb}
 use borrow.Author.Tests.{eq-eqb}

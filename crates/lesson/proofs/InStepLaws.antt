@@ -65,10 +65,10 @@ use Rattle.sorter.specs.Sorting.{sortedOf}
 use Rattle.places.proofs.CountLaws.{voice-twice, lsd-twice}
 use Rattle.round.proofs.RoundLaws.{voice-bits-back, lsd-back}
 use Rattle.lesson.specs.Session.{Turn, after, Entry, log, blockSent, entryOf}
-use Rattle.lesson.specs.Demand2.{wordTold, wordOf, Answered, LaidDown, commanded, GoesOn, BlockAfterBlock, OctetsLaidDown, lastSix, KeptAsSent, Placed, InStep, Agrees, readerAfter, HandedBack, Back, AllBack, StaysInStep, MendsWords, JoinsAtNeutral}
+use Rattle.lesson.specs.Demand2.{wordTold, wordOf, Answered, LaidDown, commanded, GoesOn, BlockAfterBlock, OctetsLaidDown, KeptAsSent, Placed, InStep, Agrees, readerAfter, HandedBack, Back, AllBack, StaysInStep, MendsWords, JoinsAtNeutral}
 use Rattle.lesson.proofs.TurnLaws.{Stayed, Went, turn-cases, log-stayed, log-went}
 use Rattle.lesson.proofs.RuleLaws.{rule-due, rule-answer, rule-word, rule-chosen}
-use Rattle.lesson.proofs.WordLaws.{force-apart, Sends, word-small, plan-mode, plan-due, mode-follows, due-after-same}
+use Rattle.lesson.proofs.WordLaws.{force-apart, Sends, word-small, plan-mode, mode-follows, due-after-same}
 
 -- ---- the eight blocks of a multiframe
 pub each : (P : ℕ → Type 0) → P 1 → P 2 → P 3 → P 4 → P 5 → P 6 → P 7 → P 8 → (b : ℕ) → 1 ≤ b → b ≤ 8 → P b

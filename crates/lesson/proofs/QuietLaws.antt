@@ -1,7 +1,7 @@
 -- A quiet session: audio and data are off, and a code that touches no mode is offered again and again. Every call is accepted, and a
 -- fresh reader is in step with a fresh sender after six blocks. So what the laws of coming into step suppose can be met.
 use mathlib.Core.Path.{_≡_, refl, ap}
-use mathlib.Core.Bool.{true, false}
+use mathlib.Core.Bool.{true}
 use Prim.Native.Nat.{ℕ, zero, suc}
 use native.Mathlib.Omega.{arith}
 use lib.ListN.{length, replicate}

@@ -85,16 +85,6 @@ module _ (s : Sender) (code : ℕ) where
   plan-mode Release k = rw (audio-command (s .chosen) (k .kept .ranges .spoken) (k .kept .ranges .named))
   plan-mode Offered k = refl
 
-  pub plan-due : (rule : Rule) → Sends s code rule
-      → (planBy rule s code) .due ≡ cond (goesAsItem rule) 0 (dueNumber (openingOf ((planBy rule s code) .word)))
-  unfolding planBy openingOf
-  plan-due AsItem k = refl
-  plan-due MuteOff k = refl
-  plan-due Release k =
-      let l = audio-small (s .chosen) (k .kept .ranges .spoken) in
-      rw (ne-eqb (written audioAttribute (s .chosen) / 32) 7 (omega arith))
-  plan-due Offered k = refl
-
 -- ---- a word that is carried opens no message
 message-marker : (w : ℕ) → openingOf w ≡ Message → (w / 32 ≡ 7) × (24 < w % 32)
 unfolding openingOf

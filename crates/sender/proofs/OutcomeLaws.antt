@@ -3,7 +3,6 @@ use mathlib.Core.Path.{_≡_, refl, sym, _∙_}
 use mathlib.Core.Bool.{true}
 use mathlib.Core.List.{List}
 use Prim.Native.Nat.{ℕ}
-use lib.Dec.{leb}
 use lib.ListN.{length}
 use Rattle.crc.specs.Crc.{blockCrcOf}
 use Rattle.crc.proofs.CrcLaws.{crc-low}
@@ -15,7 +14,7 @@ use Rattle.control.specs.State.{stateInRange}
 use Rattle.control.specs.Rules.{ruleOf}
 use Rattle.control.specs.Plans.{planBy}
 use Rattle.control.specs.Refusals.{numberIn}
-use Rattle.control.specs.Decisions.{nextBy, withRemainder, decisionBy, decisionOf}
+use Rattle.control.specs.Decisions.{withRemainder, decisionBy, decisionOf}
 use Rattle.control.specs.declared.Sender.{Sender}
 use Rattle.control.specs.declared.Call.{Call}
 use Rattle.control.specs.declared.Rule.{Rule}
@@ -23,7 +22,7 @@ use Rattle.control.specs.declared.Rule.the-variants.{AsItem, MuteOff, Release, 
 use Rattle.control.specs.declared.Decision.{Decision}
 use Rattle.control.specs.declared.Answer.the-variants.{Refused}
 use Rattle.control.proofs.RangeLaws.{decided-in-range}
-use Rattle.sender.specs.Step.{blockFor, stateBy, lineBy, ruled, decided, outcomeOf, lineOf, Told}
+use Rattle.sender.specs.Step.{blockFor, ruled, decided, outcomeOf, lineOf, Told}
 use Rattle.sender.specs.declared.Outcome.{Outcome}
 
 -- the answer's number is that of the ruling: a word that goes is no refusal
@@ -58,19 +57,11 @@ module _ (s : Sender) (c : Call) (voice lsd line : List ℕ) where
       let h = rw e at r in
       record { outcome = rw (b, e, h); octets = rw (b, e, h); number = rw e (told .number) }
 
-  -- what a refused call leaves, and what an accepted one does
+  -- what a refused call leaves
   pub refused-is : (q : Refusal) → ruled s c voice lsd line ≡ Refuse q
       → (outcomeOf s c voice lsd line ≡ record { state = s; answer = Refused q }) × (lineOf s c voice lsd line ≡ line)
   unfolding outcomeOf lineOf decisionOf
   refused-is q e = (rw e, rw e)
-
-  pub went-is : ruled s c voice lsd line ≡ Accept
-      → (let p = planBy (ruleOf s (c .mute)) s (c .code) in
-      let block = blockFor s c (p .word) voice lsd in
-      (outcomeOf s c voice lsd line ≡ record { state = withRemainder (nextBy p s) (blockCrcOf block); answer = p .answer })
-      × (lineOf s c voice lsd line ≡ block))
-  unfolding outcomeOf lineOf decisionOf
-  went-is e = (rw e, rw e)
 
   -- a call on a state in range leaves one in range
   pub stays-in-range : stateInRange s ≡ true → stateInRange ((outcomeOf s c voice lsd line) .state) ≡ true
