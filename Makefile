@@ -6,9 +6,9 @@
 
 demo:
 	@mkdir -p target
-	@rt check figures frames demo >target/demo.log 2>&1 || { cat target/demo.log; exit 1; }
+	@rt check figures layouts demo >target/demo.log 2>&1 || { cat target/demo.log; exit 1; }
 	@sh tools/run figures
-	@sh tools/run frames
+	@sh tools/run layouts
 	@sh tools/run demo
 
 test:

@@ -3,18 +3,6 @@ use borrow.Author.Needs.{needs}
 use Rattle.answers.proofs.send_answer.Statement.{statement}
 use Rattle.answers.proofs.send_answer.Tie as tie
 
-enum-told : tie.Need-enum-told
-enum-told c = search needs
-
-enum-told-2 : tie.Need-enum-told-2
-enum-told-2 c = search needs
-
-enum-known-answer : tie.Need-enum-known-answer
-enum-known-answer c = search needs
-
-number-of-requires : tie.Need-number-of-requires
-number-of-requires c κs = search needs
-
 returns : tie.Need-returns
 returns c = rw (c .enum-told .given .1)
 
@@ -28,10 +16,10 @@ pub send-answer-spec : {M : Type 1} → statement M
 send-answer-spec =
     tie.close
     (tie.spec
-    enum-told
-    enum-told-2
-    enum-known-answer
-    number-of-requires
+    (λ c. search needs)
+    (λ c. search needs)
+    (λ c. search needs)
+    (λ c κs. search needs)
     returns
     returns-2
     returns-3)

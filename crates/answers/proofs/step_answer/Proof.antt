@@ -3,27 +3,6 @@ use borrow.Author.Needs.{needs}
 use Rattle.answers.proofs.step_answer.Statement.{statement}
 use Rattle.answers.proofs.step_answer.Tie as tie
 
-no-block-requires : tie.Need-no-block-requires
-no-block-requires c κs = search needs
-
-enum-known-answer : tie.Need-enum-known-answer
-enum-known-answer c = search needs
-
-block-answer-requires : tie.Need-block-answer-requires
-block-answer-requires c κs = search needs
-
-enum-known-answer-2 : tie.Need-enum-known-answer-2
-enum-known-answer-2 c = search needs
-
-enum-known-answer-3 : tie.Need-enum-known-answer-3
-enum-known-answer-3 c = search needs
-
-enum-known-answer-4 : tie.Need-enum-known-answer-4
-enum-known-answer-4 c = search needs
-
-number-of-requires : tie.Need-number-of-requires
-number-of-requires c κs = search needs
-
 returns : tie.Need-returns
 returns c = rw (c .block-answer .ensures, c .before .before .answer .given .1)
 
@@ -37,4 +16,4 @@ returns-4 : tie.Need-returns-4
 returns-4 c = rw (c .number-of .ensures, c .before .before .before .before .no-block .ensures, c .before .before .answer4 .given .1)
 
 pub step-answer-spec : {M : Type 1} → statement M
-step-answer-spec = tie.close (tie.spec no-block-requires enum-known-answer block-answer-requires enum-known-answer-2 enum-known-answer-3 enum-known-answer-4 number-of-requires returns returns-2 returns-3 returns-4)
+step-answer-spec = tie.close (tie.spec (λ c κs. search needs) (λ c. search needs) (λ c κs. search needs) (λ c. search needs) (λ c. search needs) (λ c. search needs) (λ c κs. search needs) returns returns-2 returns-3 returns-4)

@@ -8,15 +8,9 @@ use Rattle.bas.specs.Flips.{lights, syndrome, filled, flipTable, flipsAt
 use Rattle.bas.proofs.flips.Statement.{statement}
 use Rattle.bas.proofs.flips.Tie as tie
 
-mul-result : tie.Need-mul-result
-mul-result c = search needs
-
-array-read-result : tie.Need-array-read-result
-array-read-result c = search needs
-
 returns : tie.Need-returns
 unfolding flipsAt flipTable filled syndrome lights number remainder continued fed xors scaled xor
 returns c = refl
 
 pub flips-spec : {M : Type 1} → statement M
-flips-spec = tie.close (tie.spec mul-result array-read-result returns)
+flips-spec = tie.close (tie.spec (λ c. search needs) (λ c. search needs) returns)

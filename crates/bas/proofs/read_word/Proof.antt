@@ -18,23 +18,11 @@ remains w check e = ap (λ (n : ℕ). bitXor n (w % 256)) e ∙ place w
 found : (w check flip : ℕ) → check ≡ checkOf (w / 256) → flip ≡ flipsAt (bitXor check (w % 256)) → flip ≡ flipsAt (number (syndrome (lowBits 16 w)))
 found w check flip e g = g ∙ ap flipsAt (remains w check e)
 
-cast-code : tie.Need-cast-code
-cast-code c = search needs
-
-cast-check : tie.Need-cast-check
-cast-check c = search needs
-
-check-octet-requires : tie.Need-check-octet-requires
-check-octet-requires c κs = search needs
-
 returns : tie.Need-returns
 returns c =
     let w = c .before .before .args .word in
     let h : w < 65536 = search needs in
     sym (unharmed w h (sym (remains w _ (c .before .check-octet .ensures)) ∙ c .if1 .taken))
-
-flips-requires : tie.Need-flips-requires
-flips-requires c κs = search needs
 
 returns-2 : tie.Need-returns-2
 returns-2 c =
@@ -42,9 +30,6 @@ returns-2 c =
     let w = p .before .args .word in
     let is = found w _ _ (p .check-octet .ensures) (c .before .flips .ensures) in
     sym (unmended w (sym is ∙ c .if2 .taken))
-
-cast-high : tie.Need-cast-high
-cast-high c = search needs
 
 returns-3 : tie.Need-returns-3
 returns-3 c =
@@ -58,11 +43,11 @@ pub read-word-spec : {M : Type 1} → statement M
 read-word-spec =
     tie.close
     (tie.spec
-    cast-code
-    cast-check
-    check-octet-requires
+    (λ c. search needs)
+    (λ c. search needs)
+    (λ c κs. search needs)
     returns
-    flips-requires
+    (λ c κs. search needs)
     returns-2
-    cast-high
+    (λ c. search needs)
     returns-3)

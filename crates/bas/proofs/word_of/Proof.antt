@@ -6,18 +6,6 @@ use Rattle.bas.proofs.WordLaws.{wordOf-is}
 use Rattle.bas.proofs.word_of.Statement.{statement}
 use Rattle.bas.proofs.word_of.Tie as tie
 
-check-octet-requires : tie.Need-check-octet-requires
-check-octet-requires c κs = search needs
-
-mul-result : tie.Need-mul-result
-mul-result c = search needs
-
-cast-result : tie.Need-cast-result
-cast-result c = search needs
-
-add-result : tie.Need-add-result
-add-result c = search needs
-
 returns : tie.Need-returns
 returns c =
     let code = c .before .args .code in
@@ -25,4 +13,4 @@ returns c =
     ap (λ (n : ℕ). code * 256 + n) (c .check-octet .ensures) ∙ sym (wordOf-is code h)
 
 pub word-of-spec : {M : Type 1} → statement M
-word-of-spec = tie.close (tie.spec check-octet-requires mul-result cast-result add-result returns)
+word-of-spec = tie.close (tie.spec (λ c κs. search needs) (λ c. search needs) (λ c. search needs) (λ c. search needs) returns)

@@ -24,20 +24,11 @@ mul-eight c =
     let a = c .before .before .before .args in
     omega (arith, seven-at (a .octets .now) (a .at) (l .i) (l .eight) (omega arith) (l .inv .1))
 
-octet-after-requires : tie.Need-octet-after-requires Inv-loop μ-loop
-octet-after-requires c κs = search needs
-
 add-eight : tie.Need-add-eight Inv-loop μ-loop
 add-eight c =
     let l = c .before .before .loop in
     let a = c .before .before .before .before .args in
     omega (arith, seven-at (a .octets .now) (a .at) (l .i) (l .eight) (omega arith) (l .inv .1), c .octet-after .ensures .1)
-
-add-i : tie.Need-add-i Inv-loop μ-loop
-add-i c = search needs
-
-loop-less : tie.Need-loop-less Inv-loop μ-loop
-loop-less c = search needs
 
 loop-again : tie.Need-loop-again Inv-loop μ-loop
 loop-again c =
@@ -61,9 +52,9 @@ eight-in-turn-spec =
     μ-loop
     loop-holds
     mul-eight
-    octet-after-requires
+    (λ c κs. search needs)
     add-eight
-    add-i
-    loop-less
+    (λ c. search needs)
+    (λ c. search needs)
     loop-again
     returns)

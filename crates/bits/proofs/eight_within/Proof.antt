@@ -6,21 +6,6 @@ use borrow.Author.Needs.{needs}
 use Rattle.bits.proofs.eight_within.Statement.{statement}
 use Rattle.bits.proofs.eight_within.Tie as tie
 
-four-within-requires : tie.Need-four-within-requires
-four-within-requires c κs = search needs
-
-mul-result : tie.Need-mul-result
-mul-result c = search needs
-
-add-four-within : tie.Need-add-four-within
-add-four-within c = search needs
-
-four-within-requires-2 : tie.Need-four-within-requires-2
-four-within-requires-2 c κs = search needs
-
-add-result : tie.Need-add-result
-add-result c = search needs
-
 returns : tie.Need-returns
 returns c =
     let a = c .before .before .before .args in
@@ -30,9 +15,9 @@ pub eight-within-spec : {M : Type 1} → statement M
 eight-within-spec =
     tie.close
     (tie.spec
-    four-within-requires
-    mul-result
-    add-four-within
-    four-within-requires-2
-    add-result
+    (λ c κs. search needs)
+    (λ c. search needs)
+    (λ c. search needs)
+    (λ c κs. search needs)
+    (λ c. search needs)
     returns)

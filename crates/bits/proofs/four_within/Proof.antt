@@ -24,26 +24,11 @@ mul-four c =
     let a = c .before .before .before .args in
     omega (arith, seven-at (a .octets .now) (a .at) (l .i) (l .four) (omega arith) (l .inv .1))
 
-add-wide : tie.Need-add-wide Inv-loop μ-loop
-add-wide c = search needs
-
-shared-slice-read-wide : tie.Need-shared-slice-read-wide Inv-loop μ-loop
-shared-slice-read-wide c = search needs
-
-wide-requires : tie.Need-wide-requires Inv-loop μ-loop
-wide-requires c κs = search needs
-
 add-four : tie.Need-add-four Inv-loop μ-loop
 add-four c =
     let l = c .before .before .before .loop in
     let a = c .before .before .before .before .before .args in
     omega (arith, seven-at (a .octets .now) (a .at) (l .i) (l .four) (omega arith) (l .inv .1), c .wide .ensures .1)
-
-add-i : tie.Need-add-i Inv-loop μ-loop
-add-i c = search needs
-
-loop-less : tie.Need-loop-less Inv-loop μ-loop
-loop-less c = search needs
 
 loop-again : tie.Need-loop-again Inv-loop μ-loop
 loop-again c =
@@ -68,11 +53,11 @@ four-within-spec =
     μ-loop
     loop-holds
     mul-four
-    add-wide
-    shared-slice-read-wide
-    wide-requires
+    (λ c. search needs)
+    (λ c. search needs)
+    (λ c κs. search needs)
     add-four
-    add-i
-    loop-less
+    (λ c. search needs)
+    (λ c. search needs)
     loop-again
     returns)

@@ -13,16 +13,10 @@ returns c =
     let a = c .before .before .args in
     rw (lt-leb (a .at + 8) (length (now (a .octets))) (omega arith))
 
-sub-if2 : tie.Need-sub-if2
-sub-if2 c = search needs
-
 returns-2 : tie.Need-returns-2
 returns-2 c =
     let a = c .before .before .before .args in
     rw (lt-leb (a .at + 8) (length (now (a .octets))) (omega arith))
-
-eight-within-requires : tie.Need-eight-within-requires
-eight-within-requires c κs = search needs
 
 returns-3 : tie.Need-returns-3
 returns-3 c =
@@ -30,4 +24,4 @@ returns-3 c =
     rw (le-leb (a .at + 8) (length (now (a .octets))) (omega arith)) (c .eight-within .ensures)
 
 pub whole-eight-at-spec : {M : Type 1} → statement M
-whole-eight-at-spec = tie.close (tie.spec returns sub-if2 returns-2 eight-within-requires returns-3)
+whole-eight-at-spec = tie.close (tie.spec returns (λ c. search needs) returns-2 (λ c κs. search needs) returns-3)

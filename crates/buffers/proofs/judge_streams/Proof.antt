@@ -3,14 +3,8 @@ use borrow.Author.Needs.{needs}
 use Rattle.buffers.proofs.judge_streams.Statement.{statement}
 use Rattle.buffers.proofs.judge_streams.Tie as tie
 
-judge-requires : tie.Need-judge-requires
-judge-requires c κs = search needs
-
-judge-requires-2 : tie.Need-judge-requires-2
-judge-requires-2 c κs = search needs
-
 returns : tie.Need-returns
 returns c = rw (c .judge2 .ensures, c .before .judge .ensures)
 
 pub judge-streams-spec : {M : Type 1} → statement M
-judge-streams-spec = tie.close (tie.spec judge-requires judge-requires-2 returns)
+judge-streams-spec = tie.close (tie.spec (λ c κs. search needs) (λ c κs. search needs) returns)

@@ -3,14 +3,8 @@ use borrow.Author.Needs.{needs}
 use Rattle.card.proofs.delampuk_search.Statement.{statement}
 use Rattle.card.proofs.delampuk_search.Tie as tie
 
-search-requires : tie.Need-search-requires
-search-requires c κs = search needs
-
-search-answer-requires : tie.Need-search-answer-requires
-search-answer-requires c κs = search needs
-
 returns : tie.Need-returns
 returns c = rw (c .search-answer .ensures, c .before .search .ensures)
 
 pub delampuk-search-spec : {M : Type 1} → statement M
-delampuk-search-spec = tie.close (tie.spec search-requires search-answer-requires returns)
+delampuk-search-spec = tie.close (tie.spec (λ c κs. search needs) (λ c κs. search needs) returns)

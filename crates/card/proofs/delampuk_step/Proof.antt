@@ -4,24 +4,6 @@ use borrow.Author.Needs.{needs}
 use Rattle.card.proofs.delampuk_step.Statement.{statement}
 use Rattle.card.proofs.delampuk_step.Tie as tie
 
-is-on-requires : tie.Need-is-on-requires
-is-on-requires c κs = search needs
-
-step-from-requires : tie.Need-step-from-requires
-step-from-requires c κs = search needs
-
-mark-after-requires : tie.Need-mark-after-requires
-mark-after-requires c κs = search needs
-
-step-answer-requires : tie.Need-step-answer-requires
-step-answer-requires c κs = search needs
-
-same-length : tie.Need-same-length
-same-length c = search needs
-
-same-length-2 : tie.Need-same-length-2
-same-length-2 c = search needs
-
 returns : tie.Need-returns
 returns c =
     step-is _ _ (c .before .before .before .before .before .before .before .before .before .before .before .before .before .before .args .lost) _ _ _ _ _ _ _ _ _
@@ -31,4 +13,4 @@ returns c =
     (c .step-answer .ensures)
 
 pub delampuk-step-spec : {M : Type 1} → statement M
-delampuk-step-spec = tie.close (tie.spec is-on-requires step-from-requires mark-after-requires step-answer-requires same-length same-length-2 returns)
+delampuk-step-spec = tie.close (tie.spec (λ c κs. search needs) (λ c κs. search needs) (λ c κs. search needs) (λ c κs. search needs) (λ c. search needs) (λ c. search needs) returns)

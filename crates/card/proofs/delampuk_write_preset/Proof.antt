@@ -3,18 +3,6 @@ use borrow.Author.Needs.{needs}
 use Rattle.card.proofs.delampuk_write_preset.Statement.{statement}
 use Rattle.card.proofs.delampuk_write_preset.Tie as tie
 
-write-preset-requires : tie.Need-write-preset-requires
-write-preset-requires c κs = search needs
-
-enum-known-written : tie.Need-enum-known-written
-enum-known-written c = search needs
-
-enum-known-written-2 : tie.Need-enum-known-written-2
-enum-known-written-2 c = search needs
-
-number-of-requires : tie.Need-number-of-requires
-number-of-requires c κs = search needs
-
 returns : tie.Need-returns
 returns c = rw (← c .before .before .before .write-preset .ensures, c .before .written .given .1)
 
@@ -22,4 +10,4 @@ returns-2 : tie.Need-returns-2
 returns-2 c = rw (c .number-of .ensures, ← c .before .before .before .before .write-preset .ensures, c .before .before .written2 .given .1)
 
 pub delampuk-write-preset-spec : {M : Type 1} → statement M
-delampuk-write-preset-spec = tie.close (tie.spec write-preset-requires enum-known-written enum-known-written-2 number-of-requires returns returns-2)
+delampuk-write-preset-spec = tie.close (tie.spec (λ c κs. search needs) (λ c. search needs) (λ c. search needs) (λ c κs. search needs) returns returns-2)

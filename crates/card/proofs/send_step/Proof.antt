@@ -4,27 +4,6 @@ use borrow.Author.Needs.{needs}
 use Rattle.card.proofs.send_step.Statement.{statement}
 use Rattle.card.proofs.send_step.Tie as tie
 
-is-on-requires : tie.Need-is-on-requires
-is-on-requires c κs = search needs
-
-is-on-requires-2 : tie.Need-is-on-requires-2
-is-on-requires-2 c κs = search needs
-
-is-on-requires-3 : tie.Need-is-on-requires-3
-is-on-requires-3 c κs = search needs
-
-is-on-requires-4 : tie.Need-is-on-requires-4
-is-on-requires-4 c κs = search needs
-
-send-requires : tie.Need-send-requires
-send-requires c κs = search needs
-
-send-answer-requires : tie.Need-send-answer-requires
-send-answer-requires c κs = search needs
-
-same-length : tie.Need-same-length
-same-length c = search needs
-
 returns : tie.Need-returns
 returns c =
     sent-is _ _ _ _ _ _ _ _ _ _ _ _ _ _ _ _
@@ -39,11 +18,11 @@ pub send-step-spec : {M : Type 1} → statement M
 send-step-spec =
     tie.close
     (tie.spec
-    is-on-requires
-    is-on-requires-2
-    is-on-requires-3
-    is-on-requires-4
-    send-requires
-    send-answer-requires
-    same-length
+    (λ c κs. search needs)
+    (λ c κs. search needs)
+    (λ c κs. search needs)
+    (λ c κs. search needs)
+    (λ c κs. search needs)
+    (λ c κs. search needs)
+    (λ c. search needs)
     returns)

@@ -9,15 +9,9 @@ returns : tie.Need-returns
 unfolding commandOf
 returns c = rw (eq-eqb _ _ (c .if1 .taken))
 
-is-audio-requires : tie.Need-is-audio-requires
-is-audio-requires c κs = search needs
-
 returns-2 : tie.Need-returns-2
 unfolding commandOf
 returns-2 c = rw (ne-eqb _ _ (c .before .before .if1 .left), ← c .before .is-audio .ensures, c .if2 .taken)
-
-is-lsd-requires : tie.Need-is-lsd-requires
-is-lsd-requires c κs = search needs
 
 returns-3 : tie.Need-returns-3
 unfolding commandOf
@@ -29,4 +23,4 @@ returns-4 c = rw (ne-eqb _ _ (c .before .before .before .before .if1 .left), ←
 
 pub command-of-spec : {M : Type 1} → statement M
 command-of-spec =
-    tie.close (tie.spec returns is-audio-requires returns-2 is-lsd-requires returns-3 returns-4)
+    tie.close (tie.spec returns (λ c κs. search needs) returns-2 (λ c κs. search needs) returns-3 returns-4)

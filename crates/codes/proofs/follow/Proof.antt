@@ -5,27 +5,6 @@ use borrow.Author.Needs.{needs}
 use Rattle.codes.proofs.follow.Statement.{statement}
 use Rattle.codes.proofs.follow.Tie as tie
 
-offer-requires : tie.Need-offer-requires
-offer-requires c κs = search needs
-
-enum-told : tie.Need-enum-told
-enum-told c = search needs
-
-enum-told-2 : tie.Need-enum-told-2
-enum-told-2 c = search needs
-
-give-way-requires : tie.Need-give-way-requires
-give-way-requires c κs = search needs
-
-enum-told-3 : tie.Need-enum-told-3
-enum-told-3 c = search needs
-
-give-way-requires-2 : tie.Need-give-way-requires-2
-give-way-requires-2 c κs = search needs
-
-enum-told-4 : tie.Need-enum-told-4
-enum-told-4 c = search needs
-
 returns : tie.Need-returns
 unfolding offered followed
 returns c = rw (c .before .before .offer .ensures, c .enum-told .given .1)
@@ -46,13 +25,13 @@ pub follow-spec : {M : Type 1} → statement M
 follow-spec =
     tie.close
     (tie.spec
-    offer-requires
-    enum-told
-    enum-told-2
-    give-way-requires
-    enum-told-3
-    give-way-requires-2
-    enum-told-4
+    (λ c κs. search needs)
+    (λ c. search needs)
+    (λ c. search needs)
+    (λ c κs. search needs)
+    (λ c. search needs)
+    (λ c κs. search needs)
+    (λ c. search needs)
     returns
     returns-2
     returns-3

@@ -7,11 +7,8 @@ use Rattle.codes.proofs.is_audio.Tie as tie
 returns : tie.Need-returns
 returns c = rw (ne-eqb _ _ (c .if1 .taken))
 
-audio-places-requires : tie.Need-audio-places-requires
-audio-places-requires c κs = search needs
-
 returns-2 : tie.Need-returns-2
 returns-2 c = rw (c .audio-places .ensures, eq-eqb _ _ (c .before .if1 .left))
 
 pub is-audio-spec : {M : Type 1} → statement M
-is-audio-spec = tie.close (tie.spec returns audio-places-requires returns-2)
+is-audio-spec = tie.close (tie.spec returns (λ c κs. search needs) returns-2)

@@ -4,15 +4,9 @@ use borrow.Author.Needs.{needs}
 use Rattle.codes.proofs.is_carried.Statement.{statement}
 use Rattle.codes.proofs.is_carried.Tie as tie
 
-is-audio-requires : tie.Need-is-audio-requires
-is-audio-requires c κs = search needs
-
-is-lsd-requires : tie.Need-is-lsd-requires
-is-lsd-requires c κs = search needs
-
 returns : tie.Need-returns
 unfolding carried
 returns c = rw (c .is-lsd .ensures, c .before .is-audio .ensures)
 
 pub is-carried-spec : {M : Type 1} → statement M
-is-carried-spec = tie.close (tie.spec is-audio-requires is-lsd-requires returns)
+is-carried-spec = tie.close (tie.spec (λ c κs. search needs) (λ c κs. search needs) returns)

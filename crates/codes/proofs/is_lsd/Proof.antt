@@ -7,11 +7,8 @@ use Rattle.codes.proofs.is_lsd.Tie as tie
 returns : tie.Need-returns
 returns c = rw (ne-eqb _ _ (c .if1 .taken))
 
-lsd-places-requires : tie.Need-lsd-places-requires
-lsd-places-requires c κs = search needs
-
 returns-2 : tie.Need-returns-2
 returns-2 c = rw (c .lsd-places .ensures, eq-eqb _ _ (c .before .if1 .left))
 
 pub is-lsd-spec : {M : Type 1} → statement M
-is-lsd-spec = tie.close (tie.spec returns lsd-places-requires returns-2)
+is-lsd-spec = tie.close (tie.spec returns (λ c κs. search needs) returns-2)

@@ -4,27 +4,6 @@ use borrow.Author.Needs.{needs}
 use Rattle.codes.proofs.offer.Statement.{statement}
 use Rattle.codes.proofs.offer.Tie as tie
 
-enum-told : tie.Need-enum-told
-enum-told c = search needs
-
-off-requires : tie.Need-off-requires
-off-requires c κs = search needs
-
-enum-known-command : tie.Need-enum-known-command
-enum-known-command c = search needs
-
-with-audio-requires : tie.Need-with-audio-requires
-with-audio-requires c κs = search needs
-
-enum-known-command-2 : tie.Need-enum-known-command-2
-enum-known-command-2 c = search needs
-
-with-lsd-requires : tie.Need-with-lsd-requires
-with-lsd-requires c κs = search needs
-
-enum-told-2 : tie.Need-enum-told-2
-enum-told-2 c = search needs
-
 returns : tie.Need-returns
 unfolding offered
 returns c = rw (c .before .enum-told .given .1, c .off .ensures)
@@ -45,13 +24,13 @@ pub offer-spec : {M : Type 1} → statement M
 offer-spec =
     tie.close
     (tie.spec
-    enum-told
-    off-requires
-    enum-known-command
-    with-audio-requires
-    enum-known-command-2
-    with-lsd-requires
-    enum-told-2
+    (λ c. search needs)
+    (λ c κs. search needs)
+    (λ c. search needs)
+    (λ c κs. search needs)
+    (λ c. search needs)
+    (λ c κs. search needs)
+    (λ c. search needs)
     returns
     returns-2
     returns-3

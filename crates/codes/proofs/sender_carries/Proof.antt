@@ -4,12 +4,9 @@ use borrow.Author.Needs.{needs}
 use Rattle.codes.proofs.sender_carries.Statement.{statement}
 use Rattle.codes.proofs.sender_carries.Tie as tie
 
-is-carried-requires : tie.Need-is-carried-requires
-is-carried-requires c κs = search needs
-
 returns : tie.Need-returns
 unfolding senderCarries
 returns c = c .is-carried .ensures
 
 pub sender-carries-spec : {M : Type 1} → statement M
-sender-carries-spec = tie.close (tie.spec is-carried-requires returns)
+sender-carries-spec = tie.close (tie.spec (λ c κs. search needs) returns)

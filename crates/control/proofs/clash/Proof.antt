@@ -6,24 +6,9 @@ use borrow.Author.Needs.{needs}
 use Rattle.control.proofs.clash.Statement.{statement}
 use Rattle.control.proofs.clash.Tie as tie
 
-with-audio-requires : tie.Need-with-audio-requires
-with-audio-requires c κs = search needs
-
-overlap-requires : tie.Need-overlap-requires
-overlap-requires c κs = search needs
-
 returns : tie.Need-returns
 unfolding clashes
 returns c = rw (c .overlap .ensures, c .before .with-audio .ensures, c .before .before .if1 .taken, or-false)
-
-chosen-mode-requires : tie.Need-chosen-mode-requires
-chosen-mode-requires c κs = search needs
-
-with-lsd-requires : tie.Need-with-lsd-requires
-with-lsd-requires c κs = search needs
-
-overlap-requires-2 : tie.Need-overlap-requires-2
-overlap-requires-2 c κs = search needs
 
 returns-2 : tie.Need-returns-2
 unfolding clashes
@@ -38,11 +23,11 @@ pub clash-spec : {M : Type 1} → statement M
 clash-spec =
     tie.close
     (tie.spec
-    with-audio-requires
-    overlap-requires
+    (λ c κs. search needs)
+    (λ c κs. search needs)
     returns
-    chosen-mode-requires
-    with-lsd-requires
-    overlap-requires-2
+    (λ c κs. search needs)
+    (λ c κs. search needs)
+    (λ c κs. search needs)
     returns-2
     returns-3)

@@ -5,24 +5,6 @@ use borrow.Author.Needs.{needs}
 use Rattle.control.proofs.decide.Statement.{statement}
 use Rattle.control.proofs.decide.Tie as tie
 
-ruling-of-requires : tie.Need-ruling-of-requires
-ruling-of-requires c κs = search needs
-
-enum-known-ruling : tie.Need-enum-known-ruling
-enum-known-ruling c = search needs
-
-enum-told : tie.Need-enum-told
-enum-told c = search needs
-
-rule-of-requires : tie.Need-rule-of-requires
-rule-of-requires c κs = search needs
-
-plan-by-requires : tie.Need-plan-by-requires
-plan-by-requires c κs = search needs
-
-next-by-requires : tie.Need-next-by-requires
-next-by-requires c κs = search needs
-
 returns : tie.Need-returns
 unfolding decisionOf
 returns c =
@@ -39,11 +21,11 @@ pub decide-spec : {M : Type 1} → statement M
 decide-spec =
     tie.close
     (tie.spec
-    ruling-of-requires
-    enum-known-ruling
-    enum-told
-    rule-of-requires
-    plan-by-requires
-    next-by-requires
+    (λ c κs. search needs)
+    (λ c. search needs)
+    (λ c. search needs)
+    (λ c κs. search needs)
+    (λ c κs. search needs)
+    (λ c κs. search needs)
     returns
     returns-2)

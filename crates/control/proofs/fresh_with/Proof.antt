@@ -3,11 +3,8 @@ use borrow.Author.Needs.{needs}
 use Rattle.control.proofs.fresh_with.Statement.{statement}
 use Rattle.control.proofs.fresh_with.Tie as tie
 
-off-requires : tie.Need-off-requires
-off-requires c κs = search needs
-
 returns : tie.Need-returns
 returns c = rw (c .off .ensures)
 
 pub fresh-with-spec : {M : Type 1} → statement M
-fresh-with-spec = tie.close (tie.spec off-requires returns)
+fresh-with-spec = tie.close (tie.spec (λ c κs. search needs) returns)

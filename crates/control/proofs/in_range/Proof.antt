@@ -4,15 +4,9 @@ use borrow.Author.Needs.{needs}
 use Rattle.control.proofs.in_range.Statement.{statement}
 use Rattle.control.proofs.in_range.Tie as tie
 
-chosen-mode-requires : tie.Need-chosen-mode-requires
-chosen-mode-requires c κs = search needs
-
-in-range-requires : tie.Need-in-range-requires
-in-range-requires c κs = search needs
-
 returns : tie.Need-returns
 unfolding stateInRange
 returns c = rw (c .in-range .ensures, c .before .chosen-mode .ensures)
 
 pub in-range-spec : {M : Type 1} → statement M
-in-range-spec = tie.close (tie.spec chosen-mode-requires in-range-requires returns)
+in-range-spec = tie.close (tie.spec (λ c κs. search needs) (λ c κs. search needs) returns)

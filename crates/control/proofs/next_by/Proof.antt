@@ -3,11 +3,8 @@ use borrow.Author.Needs.{needs}
 use Rattle.control.proofs.next_by.Statement.{statement}
 use Rattle.control.proofs.next_by.Tie as tie
 
-next-block-requires : tie.Need-next-block-requires
-next-block-requires c κs = search needs
-
 returns : tie.Need-returns
 returns c = rw (c .next-block .ensures)
 
 pub next-by-spec : {M : Type 1} → statement M
-next-by-spec = tie.close (tie.spec next-block-requires returns)
+next-by-spec = tie.close (tie.spec (λ c κs. search needs) returns)

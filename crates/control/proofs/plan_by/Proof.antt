@@ -7,27 +7,6 @@ use borrow.Author.Needs.{needs}
 use Rattle.control.proofs.plan_by.Statement.{statement}
 use Rattle.control.proofs.plan_by.Tie as tie
 
-enum-told : tie.Need-enum-told
-enum-told c = search needs
-
-enum-told-2 : tie.Need-enum-told-2
-enum-told-2 c = search needs
-
-enum-told-3 : tie.Need-enum-told-3
-enum-told-3 c = search needs
-
-enum-told-4 : tie.Need-enum-told-4
-enum-told-4 c = search needs
-
-with-audio-requires : tie.Need-with-audio-requires
-with-audio-requires c κs = search needs
-
-chosen-mode-requires : tie.Need-chosen-mode-requires
-chosen-mode-requires c κs = search needs
-
-offered-plan-requires : tie.Need-offered-plan-requires
-offered-plan-requires c κs = search needs
-
 returns : tie.Need-returns
 unfolding planBy
 returns c = rw (c .enum-told .given .1)
@@ -49,13 +28,13 @@ pub plan-by-spec : {M : Type 1} → statement M
 plan-by-spec =
     tie.close
     (tie.spec
-    enum-told
-    enum-told-2
-    with-audio-requires
-    enum-told-3
-    chosen-mode-requires
-    enum-told-4
-    offered-plan-requires
+    (λ c. search needs)
+    (λ c. search needs)
+    (λ c κs. search needs)
+    (λ c. search needs)
+    (λ c κs. search needs)
+    (λ c. search needs)
+    (λ c κs. search needs)
     returns
     returns-2
     returns-3

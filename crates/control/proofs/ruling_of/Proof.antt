@@ -5,45 +5,6 @@ use borrow.Author.Needs.{needs}
 use Rattle.control.proofs.ruling_of.Statement.{statement}
 use Rattle.control.proofs.ruling_of.Tie as tie
 
-rule-of-requires : tie.Need-rule-of-requires
-rule-of-requires c κs = search needs
-
-goes-plain-requires : tie.Need-goes-plain-requires
-goes-plain-requires c κs = search needs
-
-goes-as-item-requires : tie.Need-goes-as-item-requires
-goes-as-item-requires c κs = search needs
-
-in-range-requires : tie.Need-in-range-requires
-in-range-requires c κs = search needs
-
-judge-requires : tie.Need-judge-requires
-judge-requires c κs = search needs
-
-judge-line-requires : tie.Need-judge-line-requires
-judge-line-requires c κs = search needs
-
-judge-streams-requires : tie.Need-judge-streams-requires
-judge-streams-requires c κs = search needs
-
-sender-carries-requires : tie.Need-sender-carries-requires
-sender-carries-requires c κs = search needs
-
-judge-requires-2 : tie.Need-judge-requires-2
-judge-requires-2 c κs = search needs
-
-judge-requires-3 : tie.Need-judge-requires-3
-judge-requires-3 c κs = search needs
-
-judge-requires-4 : tie.Need-judge-requires-4
-judge-requires-4 c κs = search needs
-
-clash-requires : tie.Need-clash-requires
-clash-requires c κs = search needs
-
-judge-requires-5 : tie.Need-judge-requires-5
-judge-requires-5 c κs = search needs
-
 returns : tie.Need-returns
 unfolding rulingOf
 returns c =
@@ -54,17 +15,17 @@ pub ruling-of-spec : {M : Type 1} → statement M
 ruling-of-spec =
     tie.close
     (tie.spec
-    rule-of-requires
-    goes-plain-requires
-    goes-as-item-requires
-    in-range-requires
-    judge-requires
-    judge-line-requires
-    judge-streams-requires
-    sender-carries-requires
-    judge-requires-2
-    judge-requires-3
-    judge-requires-4
-    clash-requires
-    judge-requires-5
+    (λ c κs. search needs)
+    (λ c κs. search needs)
+    (λ c κs. search needs)
+    (λ c κs. search needs)
+    (λ c κs. search needs)
+    (λ c κs. search needs)
+    (λ c κs. search needs)
+    (λ c κs. search needs)
+    (λ c κs. search needs)
+    (λ c κs. search needs)
+    (λ c κs. search needs)
+    (λ c κs. search needs)
+    (λ c κs. search needs)
     returns)

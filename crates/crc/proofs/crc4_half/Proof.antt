@@ -23,12 +23,6 @@ all-right : everyBelow 16 right ≡ true
 unfolding right number remainder continued lowBits fed xors scaled xor odd
 all-right = refl
 
-mul-result : tie.Need-mul-result
-mul-result c = search needs
-
-mul-result-2 : tie.Need-mul-result-2
-mul-result-2 c = search needs
-
 returns : tie.Need-returns
 unfolding right
 returns c =
@@ -37,4 +31,4 @@ returns c =
     ∙ ap (λ (l : List Bool). number (remainder crc4Generator l)) (lowBits-mod 4 half)
 
 pub crc4-half-spec : {M : Type 1} → statement M
-crc4-half-spec = tie.close (tie.spec mul-result mul-result-2 returns)
+crc4-half-spec = tie.close (tie.spec (λ c. search needs) (λ c. search needs) returns)

@@ -20,12 +20,6 @@ more s h =
     ap (remainder crc4Generator) (lowBits-xor 4 s h ∙ ap (λ (l : List Bool). xors l (lowBits 4 h)) (sym (append-nil (lowBits 4 s))))
     ∙ sym (continued-is crc4Generator (lowBits 4 s) (lowBits 4 h) 0 (lit< tt) (length-lowBits 4 s) (length-lowBits 4 h))
 
-crc4-half-requires : tie.Need-crc4-half-requires
-crc4-half-requires c κs = search needs
-
-crc4-half-requires-2 : tie.Need-crc4-half-requires-2
-crc4-half-requires-2 c κs = search needs
-
 returns : tie.Need-returns
 unfolding crc4From
 returns c =
@@ -43,4 +37,4 @@ returns c =
     ∙ ap (continued g (lowBits 4 s)) (sym (lowBits-append 4 4 x) ∙ sym (bitsOf-one x)))
 
 pub crc4-octet-spec : {M : Type 1} → statement M
-crc4-octet-spec = tie.close (tie.spec crc4-half-requires crc4-half-requires-2 returns)
+crc4-octet-spec = tie.close (tie.spec (λ c κs. search needs) (λ c κs. search needs) returns)

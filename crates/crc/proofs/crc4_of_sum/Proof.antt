@@ -8,18 +8,6 @@ use Rattle.crc.proofs.SumLaws.{down, sum-leaves}
 use Rattle.crc.proofs.crc4_of_sum.Statement.{statement}
 use Rattle.crc.proofs.crc4_of_sum.Tie as tie
 
-cast-crc4-octet : tie.Need-cast-crc4-octet
-cast-crc4-octet c = search needs
-
-crc4-octet-requires : tie.Need-crc4-octet-requires
-crc4-octet-requires c κs = search needs
-
-cast-crc4-octet-2 : tie.Need-cast-crc4-octet-2
-cast-crc4-octet-2 c = search needs
-
-crc4-octet-requires-2 : tie.Need-crc4-octet-requires-2
-crc4-octet-requires-2 c κs = search needs
-
 returns : tie.Need-returns
 returns c =
     let sum = c .before .before .args .sum in
@@ -27,4 +15,4 @@ returns c =
     c .crc4-octet2 .ensures ∙ ap (λ (r : ℕ). crc4From r (last ∷ [])) (c .before .crc4-octet .ensures) ∙ sum-leaves sum (search needs)
 
 pub crc4-of-sum-spec : {M : Type 1} → statement M
-crc4-of-sum-spec = tie.close (tie.spec cast-crc4-octet crc4-octet-requires cast-crc4-octet-2 crc4-octet-requires-2 returns)
+crc4-of-sum-spec = tie.close (tie.spec (λ c. search needs) (λ c κs. search needs) (λ c. search needs) (λ c κs. search needs) returns)

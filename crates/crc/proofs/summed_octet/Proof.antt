@@ -6,9 +6,6 @@ use borrow.Author.Needs.{needs}
 use Rattle.crc.proofs.summed_octet.Statement.{statement}
 use Rattle.crc.proofs.summed_octet.Tie as tie
 
-mul-result : tie.Need-mul-result
-mul-result c = search needs
-
 returns : tie.Need-returns
 unfolding summed
 returns c = simp (le-leb _ _ (c .before .if1 .taken), lt-ltb (c .before .before .args .at) 88 (omega arith))
@@ -22,4 +19,4 @@ unfolding summed
 returns-3 c = simp (lt-leb _ _ (c .if1 .left))
 
 pub summed-octet-spec : {M : Type 1} → statement M
-summed-octet-spec = tie.close (tie.spec mul-result returns returns-2 returns-3)
+summed-octet-spec = tie.close (tie.spec (λ c. search needs) returns returns-2 returns-3)

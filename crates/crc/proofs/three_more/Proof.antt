@@ -9,24 +9,6 @@ use borrow.Author.Needs.{needs}
 use Rattle.crc.proofs.three_more.Statement.{statement}
 use Rattle.crc.proofs.three_more.Tie as tie
 
-add-eight-within : tie.Need-add-eight-within
-add-eight-within c = search needs
-
-eight-within-requires : tie.Need-eight-within-requires
-eight-within-requires c κs = search needs
-
-eight-within-requires-2 : tie.Need-eight-within-requires-2
-eight-within-requires-2 c κs = search needs
-
-add-eight-within-2 : tie.Need-add-eight-within-2
-add-eight-within-2 c = search needs
-
-eight-within-requires-3 : tie.Need-eight-within-requires-3
-eight-within-requires-3 c κs = search needs
-
-sum-with-requires : tie.Need-sum-with-requires
-sum-with-requires c κs = search needs
-
 returns : tie.Need-returns
 returns c =
     let a = c .before .before .before .before .before .args in
@@ -39,10 +21,10 @@ pub three-more-spec : {M : Type 1} → statement M
 three-more-spec =
     tie.close
     (tie.spec
-    add-eight-within
-    eight-within-requires
-    eight-within-requires-2
-    add-eight-within-2
-    eight-within-requires-3
-    sum-with-requires
+    (λ c. search needs)
+    (λ c κs. search needs)
+    (λ c κs. search needs)
+    (λ c. search needs)
+    (λ c κs. search needs)
+    (λ c κs. search needs)
     returns)

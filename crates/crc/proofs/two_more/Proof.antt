@@ -9,18 +9,6 @@ use borrow.Author.Needs.{needs}
 use Rattle.crc.proofs.two_more.Statement.{statement}
 use Rattle.crc.proofs.two_more.Tie as tie
 
-eight-within-requires : tie.Need-eight-within-requires
-eight-within-requires c κs = search needs
-
-add-eight-within : tie.Need-add-eight-within
-add-eight-within c = search needs
-
-eight-within-requires-2 : tie.Need-eight-within-requires-2
-eight-within-requires-2 c κs = search needs
-
-sum-with-requires : tie.Need-sum-with-requires
-sum-with-requires c κs = search needs
-
 returns : tie.Need-returns
 returns c =
     let before = remainder crc4Generator (lowBits 64 (c .before .before .before .before .args .sum)) in
@@ -31,8 +19,8 @@ pub two-more-spec : {M : Type 1} → statement M
 two-more-spec =
     tie.close
     (tie.spec
-    eight-within-requires
-    add-eight-within
-    eight-within-requires-2
-    sum-with-requires
+    (λ c κs. search needs)
+    (λ c. search needs)
+    (λ c κs. search needs)
+    (λ c κs. search needs)
     returns)

@@ -13,36 +13,6 @@ use borrow.Author.Needs.{needs}
 use Rattle.crc.proofs.whole_crc.Statement.{statement}
 use Rattle.crc.proofs.whole_crc.Tie as tie
 
-eight-within-requires : tie.Need-eight-within-requires
-eight-within-requires c κs = search needs
-
-eight-within-requires-2 : tie.Need-eight-within-requires-2
-eight-within-requires-2 c κs = search needs
-
-two-more-requires : tie.Need-two-more-requires
-two-more-requires c κs = search needs
-
-two-more-requires-2 : tie.Need-two-more-requires-2
-two-more-requires-2 c κs = search needs
-
-three-more-requires : tie.Need-three-more-requires
-three-more-requires c κs = search needs
-
-three-more-requires-2 : tie.Need-three-more-requires-2
-three-more-requires-2 c κs = search needs
-
-three-more-requires-3 : tie.Need-three-more-requires-3
-three-more-requires-3 c κs = search needs
-
-three-more-requires-4 : tie.Need-three-more-requires-4
-three-more-requires-4 c κs = search needs
-
-three-more-requires-5 : tie.Need-three-more-requires-5
-three-more-requires-5 c κs = search needs
-
-crc4-of-sum-requires : tie.Need-crc4-of-sum-requires
-crc4-of-sum-requires c κs = search needs
-
 returns : tie.Need-returns
 unfolding blockCrcOf crc4Of
 returns c =
@@ -72,14 +42,14 @@ pub whole-crc-spec : {M : Type 1} → statement M
 whole-crc-spec =
     tie.close
     (tie.spec
-    eight-within-requires
-    eight-within-requires-2
-    two-more-requires
-    two-more-requires-2
-    three-more-requires
-    three-more-requires-2
-    three-more-requires-3
-    three-more-requires-4
-    three-more-requires-5
-    crc4-of-sum-requires
+    (λ c κs. search needs)
+    (λ c κs. search needs)
+    (λ c κs. search needs)
+    (λ c κs. search needs)
+    (λ c κs. search needs)
+    (λ c κs. search needs)
+    (λ c κs. search needs)
+    (λ c κs. search needs)
+    (λ c κs. search needs)
+    (λ c κs. search needs)
     returns)

@@ -4,11 +4,8 @@ use borrow.Author.Needs.{needs}
 use Rattle.eights.proofs.alike.Statement.{statement}
 use Rattle.eights.proofs.alike.Tie as tie
 
-mul-result : tie.Need-mul-result
-mul-result c = search needs
-
 returns : tie.Need-returns
 returns c = eights-same (c .args .octet)
 
 pub alike-spec : {M : Type 1} → statement M
-alike-spec = tie.close (tie.spec mul-result returns)
+alike-spec = tie.close (tie.spec (λ c. search needs) returns)

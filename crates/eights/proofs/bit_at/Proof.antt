@@ -13,17 +13,8 @@ use borrow.Author.Needs.{needs}
 use Rattle.eights.proofs.bit_at.Statement.{statement}
 use Rattle.eights.proofs.bit_at.Tie as tie
 
-shared-slice-read-result : tie.Need-shared-slice-read-result
-shared-slice-read-result c = search needs
-
 cast-result : tie.Need-cast-result
 cast-result c = omega (arith, c .shared-slice-known .given (c .before .args .at / 8))
-
-sub-result : tie.Need-sub-result
-sub-result c = search needs
-
-shr-result : tie.Need-shr-result
-shr-result c = search needs
 
 returns : tie.Need-returns
 returns c =
@@ -36,4 +27,4 @@ returns c =
     sym (sym (number-one bits) ∙ ap number (nexts-take 1 bits enough) ∙ rw up at (run-within xs (a .at) 1 (omega arith) (omega arith) small))
 
 pub bit-at-spec : {M : Type 1} → statement M
-bit-at-spec = tie.close (tie.spec shared-slice-read-result cast-result sub-result shr-result returns)
+bit-at-spec = tie.close (tie.spec (λ c. search needs) cast-result (λ c. search needs) (λ c. search needs) returns)

@@ -25,24 +25,6 @@ abbrev μ-loop : tie.MeasureT-loop
 loop-holds : tie.Need-loop-holds Inv-loop μ-loop
 loop-holds c = (omega arith, omega arith, refl, λ j l. refl, λ j f l. absurd (omega arith))
 
-mul-cut-eight : tie.Need-mul-cut-eight Inv-loop μ-loop
-mul-cut-eight c = search needs
-
-cut-eight-requires : tie.Need-cut-eight-requires Inv-loop μ-loop
-cut-eight-requires c κs = search needs
-
-mul-lanes : tie.Need-mul-lanes Inv-loop μ-loop
-mul-lanes c = search needs
-
-slice-write-lanes : tie.Need-slice-write-lanes Inv-loop μ-loop
-slice-write-lanes c = search needs
-
-add-k : tie.Need-add-k Inv-loop μ-loop
-add-k c = search needs
-
-loop-less : tie.Need-loop-less Inv-loop μ-loop
-loop-less c = search needs
-
 loop-again : tie.Need-loop-again Inv-loop μ-loop
 loop-again c =
     let a = c .before .before .before .before .before .args in
@@ -56,9 +38,6 @@ loop-again c =
       one-laid (l .lanes) (a .a) (l .k) x (cutAt (now (a .buffer)) (a .d) (a .first) (a .last)) inside (c .cut-eight .ensures) (l .inv .4),
     )
 
-same-length : tie.Need-same-length Inv-loop μ-loop
-same-length c = search needs
-
 returns : tie.Need-returns Inv-loop μ-loop
 returns c =
     let l = c .before .loop in
@@ -71,12 +50,12 @@ cut-spec =
     Inv-loop
     μ-loop
     loop-holds
-    mul-cut-eight
-    cut-eight-requires
-    mul-lanes
-    slice-write-lanes
-    add-k
-    loop-less
+    (λ c. search needs)
+    (λ c κs. search needs)
+    (λ c. search needs)
+    (λ c. search needs)
+    (λ c. search needs)
+    (λ c. search needs)
     loop-again
-    same-length
+    (λ c. search needs)
     returns)

@@ -45,20 +45,8 @@ loop-holds c = (omega arith, lit< tt, refl)
 mul-eight : tie.Need-mul-eight Inv-loop μ-loop
 mul-eight c = let l = c .before .loop in omega (arith, l .inv .1, pow-mono {i = 8 * l .j} {j = 56} (omega arith))
 
-add-own-bit : tie.Need-add-own-bit Inv-loop μ-loop
-add-own-bit c = search needs
-
-own-bit-requires : tie.Need-own-bit-requires Inv-loop μ-loop
-own-bit-requires c κs = search needs
-
 add-eight : tie.Need-add-eight Inv-loop μ-loop
 add-eight c = let l = c .before .before .loop in omega (arith, l .inv .1, bit-le c, pow-mono {i = 8 * l .j} {j = 56} (omega arith))
-
-add-j : tie.Need-add-j Inv-loop μ-loop
-add-j c = search needs
-
-loop-less : tie.Need-loop-less Inv-loop μ-loop
-loop-less c = search needs
 
 loop-again : tie.Need-loop-again Inv-loop μ-loop
 loop-again c =
@@ -87,10 +75,10 @@ cut-eight-spec =
     μ-loop
     loop-holds
     mul-eight
-    add-own-bit
-    own-bit-requires
+    (λ c. search needs)
+    (λ c κs. search needs)
     add-eight
-    add-j
-    loop-less
+    (λ c. search needs)
+    (λ c. search needs)
     loop-again
     returns)

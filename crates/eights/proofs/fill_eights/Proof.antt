@@ -18,18 +18,6 @@ abbrev μ-loop : tie.MeasureT-loop
 loop-holds : tie.Need-loop-holds Inv-loop μ-loop
 loop-holds c = (omega arith, omega arith, refl, λ j l. refl, λ j f l. absurd (omega arith))
 
-mul-lanes : tie.Need-mul-lanes Inv-loop μ-loop
-mul-lanes c = search needs
-
-slice-write-lanes : tie.Need-slice-write-lanes Inv-loop μ-loop
-slice-write-lanes c = search needs
-
-add-k : tie.Need-add-k Inv-loop μ-loop
-add-k c = search needs
-
-loop-less : tie.Need-loop-less Inv-loop μ-loop
-loop-less c = search needs
-
 loop-again : tie.Need-loop-again Inv-loop μ-loop
 loop-again c =
     let a = c .before .before .args in
@@ -41,9 +29,6 @@ loop-again c =
       λ j h. getD-set-other (l .lanes) (l .k) j (a .word) 0 (λ e. omega arith) ∙ l .inv .3 j h,
       one-laid (l .lanes) (a .from) (l .k) (a .word) (λ j. a .word) inside refl (l .inv .4),
     )
-
-same-length : tie.Need-same-length Inv-loop μ-loop
-same-length c = search needs
 
 returns : tie.Need-returns Inv-loop μ-loop
 returns c =
@@ -57,10 +42,10 @@ fill-eights-spec =
     Inv-loop
     μ-loop
     loop-holds
-    mul-lanes
-    slice-write-lanes
-    add-k
-    loop-less
+    (λ c. search needs)
+    (λ c. search needs)
+    (λ c. search needs)
+    (λ c. search needs)
     loop-again
-    same-length
+    (λ c. search needs)
     returns)

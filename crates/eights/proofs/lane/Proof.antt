@@ -14,9 +14,6 @@ use borrow.Author.Needs.{needs}
 use Rattle.eights.proofs.lane.Statement.{statement}
 use Rattle.eights.proofs.lane.Tie as tie
 
-octets-at-requires : tie.Need-octets-at-requires
-octets-at-requires c κs = search needs
-
 spread-requires : tie.Need-spread-requires
 spread-requires c κs =
     let a = c .before .before .args in
@@ -30,4 +27,4 @@ returns c =
     ∙ lane-is (a .n) (drop (8 * a .i) (bitsOf (now (a .buffer))))
 
 pub lane-spec : {M : Type 1} → statement M
-lane-spec = tie.close (tie.spec octets-at-requires spread-requires returns)
+lane-spec = tie.close (tie.spec (λ c κs. search needs) spread-requires returns)

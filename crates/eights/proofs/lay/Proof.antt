@@ -15,12 +15,6 @@ alike-requires c κs =
     let s = c .before .before .before .before in
     below-small (s .args .up) (s .args .below) (omega arith) (s .pre .0 .4)
 
-fill-eights-requires : tie.Need-fill-eights-requires
-fill-eights-requires c κs = search needs
-
-same-length : tie.Need-same-length
-same-length c = search needs
-
 returns : tie.Need-returns
 returns c =
     let a = c .before .before .before .before .before .before .before .before .args in
@@ -31,23 +25,14 @@ returns c =
           ∙ raised-none (a .n) (a .up) (a .below) (drop (8 * (a .i + (k - a .from) * a .n)) (bitsOf (now (a .buffer)))) (omega arith),
     )
 
-lay-fields-requires : tie.Need-lay-fields-requires
-lay-fields-requires c κs = search needs
-
-same-length-2 : tie.Need-same-length-2
-same-length-2 c = search needs
-
-returns-2 : tie.Need-returns-2
-returns-2 c = search needs
-
 pub lay-spec : {M : Type 1} → statement M
 lay-spec =
     tie.close
     (tie.spec
     alike-requires
-    fill-eights-requires
-    same-length
+    (λ c κs. search needs)
+    (λ c. search needs)
     returns
-    lay-fields-requires
-    same-length-2
-    returns-2)
+    (λ c κs. search needs)
+    (λ c. search needs)
+    (λ c. search needs))

@@ -39,9 +39,6 @@ alike-requires c κs =
 loop-holds : tie.Need-loop-holds Inv-loop μ-loop
 loop-holds c = (omega arith, omega arith, refl, λ j l. refl, λ j f l. absurd (omega arith))
 
-sub-lane : tie.Need-sub-lane Inv-loop μ-loop
-sub-lane c = search needs
-
 mul-lane : tie.Need-mul-lane Inv-loop μ-loop
 mul-lane c =
     let s = c .before .before .before .before .before in
@@ -60,9 +57,6 @@ lane-requires c κs =
     let a = s .args in
     (omega arith, omega arith, omega (arith, s .pre .1, room (a .from) (a .to) (c .before .loop .k) (a .n) (omega arith) (omega arith)))
 
-shl-lanes : tie.Need-shl-lanes Inv-loop μ-loop
-shl-lanes c = search needs
-
 -- no bit is shifted out
 value : (c : tie.After-lane Inv-loop μ-loop)
     → (let a = c .before .before .before .before .before .before .args in
@@ -80,18 +74,6 @@ value c =
 add-lanes : tie.Need-add-lanes Inv-loop μ-loop
 add-lanes c = omega (arith, value c .0, value c .1)
 
-mul-lanes : tie.Need-mul-lanes Inv-loop μ-loop
-mul-lanes c = search needs
-
-slice-write-lanes : tie.Need-slice-write-lanes Inv-loop μ-loop
-slice-write-lanes c = search needs
-
-add-k : tie.Need-add-k Inv-loop μ-loop
-add-k c = search needs
-
-loop-less : tie.Need-loop-less Inv-loop μ-loop
-loop-less c = search needs
-
 loop-again : tie.Need-loop-again Inv-loop μ-loop
 loop-again c =
     let a = c .before .before .before .before .before .before .args in
@@ -104,9 +86,6 @@ loop-again c =
       λ j h. getD-set-other (l .lanes) (l .k) j x 0 (λ e. omega arith) ∙ l .inv .3 j h,
       one-laid (l .lanes) (a .from) (l .k) x (laidAt (now (a .buffer)) (a .from) (a .i) (a .n) (a .up) (a .below)) inside (value c .0) (l .inv .4),
     )
-
-same-length : tie.Need-same-length Inv-loop μ-loop
-same-length c = search needs
 
 returns : tie.Need-returns Inv-loop μ-loop
 returns c =
@@ -121,16 +100,16 @@ lay-fields-spec =
     μ-loop
     alike-requires
     loop-holds
-    sub-lane
+    (λ c. search needs)
     mul-lane
     add-lane
     lane-requires
-    shl-lanes
+    (λ c. search needs)
     add-lanes
-    mul-lanes
-    slice-write-lanes
-    add-k
-    loop-less
+    (λ c. search needs)
+    (λ c. search needs)
+    (λ c. search needs)
+    (λ c. search needs)
     loop-again
-    same-length
+    (λ c. search needs)
     returns)

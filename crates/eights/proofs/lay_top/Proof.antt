@@ -16,30 +16,12 @@ use Rattle.eights.proofs.lay_top.Tie as tie
 above : (n up all : ℕ) → n + up ≤ all → (2 ^ n - 1) * 2 ^ up < 2 ^ all
 above n up all h = lt-of-lt-of-le (shl-lt n up (ones-lt n)) (pow-mono h)
 
-sub-lay : tie.Need-sub-lay
-sub-lay c = search needs
-
-add-ones-above : tie.Need-add-ones-above
-add-ones-above c = search needs
-
-sub-ones-above : tie.Need-sub-ones-above
-sub-ones-above c = search needs
-
-add-ones-above-2 : tie.Need-add-ones-above-2
-add-ones-above-2 c = search needs
-
-ones-above-requires : tie.Need-ones-above-requires
-ones-above-requires c κs = search needs
-
 lay-requires : tie.Need-lay-requires
 lay-requires c κs =
     let s = c .before .before .before .before in
     let a = s .args in
     let ones : c .ones-above .result < 2 ^ (8 - a .w) = rw (c .ones-above .ensures) (above (7 - (a .w + a .c)) (a .c + 1) (8 - a .w) (omega arith)) in
     ((s .pre .0, omega arith, omega arith, omega arith, ones), s .pre .2)
-
-same-length : tie.Need-same-length
-same-length c = search needs
 
 returns : tie.Need-returns
 returns c =
@@ -54,11 +36,11 @@ pub lay-top-spec : {M : Type 1} → statement M
 lay-top-spec =
     tie.close
     (tie.spec
-    sub-lay
-    add-ones-above
-    sub-ones-above
-    add-ones-above-2
-    ones-above-requires
+    (λ c. search needs)
+    (λ c. search needs)
+    (λ c. search needs)
+    (λ c. search needs)
+    (λ c κs. search needs)
     lay-requires
-    same-length
+    (λ c. search needs)
     returns)

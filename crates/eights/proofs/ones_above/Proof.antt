@@ -11,17 +11,11 @@ use Rattle.eights.proofs.ones_above.Tie as tie
 ones-shl : (g t : ℕ) → g ≤ 8 → t ≤ 8 → (1 * 2 ^ g % 2 ^ 64 - 1) * 2 ^ t % 2 ^ 64 ≡ (2 ^ g - 1) * 2 ^ t
 ones-shl g t hg ht = rw (one-shl g (omega arith)) (shl-exact {a = 2 ^ g - 1} g t 64 (ones-lt g) (omega arith))
 
-shl-result : tie.Need-shl-result
-shl-result c = search needs
-
 sub-result : tie.Need-sub-result
 sub-result c = rw (one-shl (c .args .n) (omega arith)) (pow-pos (c .args .n))
-
-shl-result-2 : tie.Need-shl-result-2
-shl-result-2 c = search needs
 
 returns : tie.Need-returns
 returns c = ones-shl (c .args .n) (c .args .up) (omega arith) (omega arith)
 
 pub ones-above-spec : {M : Type 1} → statement M
-ones-above-spec = tie.close (tie.spec shl-result sub-result shl-result-2 returns)
+ones-above-spec = tie.close (tie.spec (λ c. search needs) sub-result (λ c. search needs) returns)

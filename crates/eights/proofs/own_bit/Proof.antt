@@ -14,33 +14,15 @@ use borrow.Author.Needs.{needs}
 use Rattle.eights.proofs.own_bit.Statement.{statement}
 use Rattle.eights.proofs.own_bit.Tie as tie
 
-add-if1 : tie.Need-add-if1
-add-if1 c = search needs
-
 returns : tie.Need-returns
 unfolding ownAt
 returns c = let a = c .before .before .args in rw (lt-leb (a .first) (a .o + 1) (omega arith))
-
-add-if2 : tie.Need-add-if2
-add-if2 c = search needs
 
 returns-2 : tie.Need-returns-2
 unfolding ownAt
 returns-2 c =
     let a = c .before .before .before .args in
     rw (le-leb (a .first) (a .o + 1) (omega arith), lt-leb (a .o + 1) (a .last) (omega arith))
-
-add-bit-at : tie.Need-add-bit-at
-add-bit-at c = search needs
-
-sub-bit-at : tie.Need-sub-bit-at
-sub-bit-at c = search needs
-
-add-bit-at-2 : tie.Need-add-bit-at-2
-add-bit-at-2 c = search needs
-
-bit-at-requires : tie.Need-bit-at-requires
-bit-at-requires c κs = search needs
 
 returns-3 : tie.Need-returns-3
 unfolding ownAt
@@ -55,4 +37,4 @@ returns-3 c =
 pub own-bit-spec : {M : Type 1} → statement M
 own-bit-spec =
     tie.close
-    (tie.spec add-if1 returns add-if2 returns-2 add-bit-at sub-bit-at add-bit-at-2 bit-at-requires returns-3)
+    (tie.spec (λ c. search needs) returns (λ c. search needs) returns-2 (λ c. search needs) (λ c. search needs) (λ c. search needs) (λ c κs. search needs) returns-3)

@@ -17,9 +17,6 @@ whole x mask up h = let l : (x - bitAnd x mask) * 2 ^ up < 2 ^ 64 = omega (arith
 sub-result : tie.Need-sub-result
 sub-result c = and-le-l (c .args .x) (c .args .mask)
 
-shl-result : tie.Need-shl-result
-shl-result c = search needs
-
 add-result : tie.Need-add-result
 add-result c = let a = c .args in omega (arith, c .pre .1, whole (a .x) (a .mask) (a .up) (c .pre .1))
 
@@ -27,4 +24,4 @@ returns : tie.Need-returns
 returns c = let a = c .args in whole (a .x) (a .mask) (a .up) (c .pre .1)
 
 pub parted-spec : {M : Type 1} → statement M
-parted-spec = tie.close (tie.spec sub-result shl-result add-result returns)
+parted-spec = tie.close (tie.spec sub-result (λ c. search needs) add-result returns)

@@ -20,31 +20,13 @@ four c =
     let a = c .before .before .args in
     c .parted2 .ensures ∙ rw (two (c .before), one-shl (2 * a .n) (omega arith)) (four-is (a .x) (a .n) (omega arith))
 
-mul-parted : tie.Need-mul-parted
-mul-parted c = search needs
-
-shl-parted : tie.Need-shl-parted
-shl-parted c = search needs
-
 sub-parted : tie.Need-sub-parted
 sub-parted c = rw (one-shl (4 * c .args .n) (omega arith)) (pow-pos (4 * c .args .n))
-
-mul-parted-2 : tie.Need-mul-parted-2
-mul-parted-2 c = search needs
-
-sub-parted-2 : tie.Need-sub-parted-2
-sub-parted-2 c = search needs
 
 parted-requires : tie.Need-parted-requires
 parted-requires c κs =
     let a = c .args in
     (omega arith, rw (one-shl (4 * a .n) (omega arith), two-is (a .x) (a .n) (omega arith)) (two-lt (a .x) (a .n) (omega arith) (c .pre .1)))
-
-mul-parted-3 : tie.Need-mul-parted-3
-mul-parted-3 c = search needs
-
-shl-parted-2 : tie.Need-shl-parted-2
-shl-parted-2 c = search needs
 
 sub-parted-3 : tie.Need-sub-parted-3
 sub-parted-3 c = let n = c .before .args .n in rw (one-shl (2 * n) (omega arith)) (pow-pos (2 * n))
@@ -55,20 +37,11 @@ mul-parted-4 c =
     let small : 2 ^ (2 * n) ≤ 2 ^ 16 = pow-mono {i = 2 * n} {j = 16} (omega arith) in
     omega (arith, one-shl (2 * n) (omega arith), small)
 
-mul-parted-5 : tie.Need-mul-parted-5
-mul-parted-5 c = search needs
-
-sub-parted-4 : tie.Need-sub-parted-4
-sub-parted-4 c = search needs
-
 parted-requires-2 : tie.Need-parted-requires-2
 parted-requires-2 c κs =
     let s = c .before in
     let a = s .args in
     (omega arith, rw (two c, one-shl (2 * a .n) (omega arith), four-is (a .x) (a .n) (omega arith)) (four-lt (a .x) (a .n) (omega arith) (s .pre .1)))
-
-shl-parted-3 : tie.Need-shl-parted-3
-shl-parted-3 c = search needs
 
 sub-parted-5 : tie.Need-sub-parted-5
 sub-parted-5 c = let n = c .before .before .args .n in rw (one-shl n (omega arith)) (pow-pos n)
@@ -78,9 +51,6 @@ mul-parted-6 c =
     let n = c .before .before .args .n in
     let small : 2 ^ n ≤ 2 ^ 8 = pow-mono {i = n} {j = 8} (omega arith) in
     omega (arith, one-shl n (omega arith), small)
-
-sub-parted-6 : tie.Need-sub-parted-6
-sub-parted-6 c = search needs
 
 parted-requires-3 : tie.Need-parted-requires-3
 parted-requires-3 c κs =
@@ -98,22 +68,22 @@ pub spread-spec : {M : Type 1} → statement M
 spread-spec =
     tie.close
     (tie.spec
-    mul-parted
-    shl-parted
+    (λ c. search needs)
+    (λ c. search needs)
     sub-parted
-    mul-parted-2
-    sub-parted-2
+    (λ c. search needs)
+    (λ c. search needs)
     parted-requires
-    mul-parted-3
-    shl-parted-2
+    (λ c. search needs)
+    (λ c. search needs)
     sub-parted-3
     mul-parted-4
-    mul-parted-5
-    sub-parted-4
+    (λ c. search needs)
+    (λ c. search needs)
     parted-requires-2
-    shl-parted-3
+    (λ c. search needs)
     sub-parted-5
     mul-parted-6
-    sub-parted-6
+    (λ c. search needs)
     parted-requires-3
     returns)

@@ -26,32 +26,8 @@ loop-holds : tie.Need-loop-holds Inv-loop μ-loop
 unfolding allOctets
 loop-holds c = (omega arith, refl, refl)
 
-mul-write-word : tie.Need-mul-write-word Inv-loop μ-loop
-mul-write-word c = search needs
-
-mul-write-word-2 : tie.Need-mul-write-word-2 Inv-loop μ-loop
-mul-write-word-2 c = search needs
-
-shared-slice-read-write-word : tie.Need-shared-slice-read-write-word Inv-loop μ-loop
-shared-slice-read-write-word c = search needs
-
-mul-write-word-3 : tie.Need-mul-write-word-3 Inv-loop μ-loop
-mul-write-word-3 c = search needs
-
-shared-slice-read-write-word-2 : tie.Need-shared-slice-read-write-word-2 Inv-loop μ-loop
-shared-slice-read-write-word-2 c = search needs
-
 add-write-word : tie.Need-add-write-word Inv-loop μ-loop
 add-write-word c = omega (arith, c .before .before .before .before .before .before .before .before .pre .1 (c .before .before .before .before .loop .k) (omega arith))
-
-write-word-requires : tie.Need-write-word-requires Inv-loop μ-loop
-write-word-requires c κs = search needs
-
-add-k : tie.Need-add-k Inv-loop μ-loop
-add-k c = search needs
-
-loop-less : tie.Need-loop-less Inv-loop μ-loop
-loop-less c = search needs
 
 loop-again : tie.Need-loop-again Inv-loop μ-loop
 loop-again c =
@@ -63,9 +39,6 @@ loop-again c =
       call .kept .0 ∙ l .inv .1,
       call .ensures ∙ ap (λ (d : List ℕ). paste d (8 * l .k) (octetsIn (f (l .k))) 8) (l .inv .2) ∙ word-over f (now (a .frame)) (l .k),
     )
-
-same-length : tie.Need-same-length Inv-loop μ-loop
-same-length c = search needs
 
 returns : tie.Need-returns Inv-loop μ-loop
 returns c =
@@ -86,15 +59,15 @@ write-sums-spec =
     Inv-loop
     μ-loop
     loop-holds
-    mul-write-word
-    mul-write-word-2
-    shared-slice-read-write-word
-    mul-write-word-3
-    shared-slice-read-write-word-2
+    (λ c. search needs)
+    (λ c. search needs)
+    (λ c. search needs)
+    (λ c. search needs)
+    (λ c. search needs)
     add-write-word
-    write-word-requires
-    add-k
-    loop-less
+    (λ c κs. search needs)
+    (λ c. search needs)
+    (λ c. search needs)
     loop-again
-    same-length
+    (λ c. search needs)
     returns)

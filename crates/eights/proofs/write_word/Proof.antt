@@ -22,30 +22,6 @@ abbrev μ-loop : tie.MeasureT-loop
 loop-holds : tie.Need-loop-holds Inv-loop μ-loop
 loop-holds c = let a = c .args in (search needs, search needs, paste-zero (a .frame .now) (a .o) (octetsIn (a .word)))
 
-sub-frame : tie.Need-sub-frame Inv-loop μ-loop
-sub-frame c = search needs
-
-mul-frame : tie.Need-mul-frame Inv-loop μ-loop
-mul-frame c = search needs
-
-shr-frame : tie.Need-shr-frame Inv-loop μ-loop
-shr-frame c = search needs
-
-cast-frame : tie.Need-cast-frame Inv-loop μ-loop
-cast-frame c = search needs
-
-add-frame : tie.Need-add-frame Inv-loop μ-loop
-add-frame c = search needs
-
-slice-write-frame : tie.Need-slice-write-frame Inv-loop μ-loop
-slice-write-frame c = search needs
-
-add-k : tie.Need-add-k Inv-loop μ-loop
-add-k c = search needs
-
-loop-less : tie.Need-loop-less Inv-loop μ-loop
-loop-less c = search needs
-
 loop-again : tie.Need-loop-again Inv-loop μ-loop
 loop-again c =
     let a = c .before .before .args in
@@ -56,9 +32,6 @@ loop-again c =
           ∙ one-over (a .frame .now) (a .o) (octetsIn (a .word)) (l .k) (octetIn (a .word) (l .k)) (omega arith) (omega arith)
           (sym (entry 8 (octetIn (a .word)) 0 (l .k) (omega arith))),
     )
-
-same-length : tie.Need-same-length Inv-loop μ-loop
-same-length c = search needs
 
 returns : tie.Need-returns Inv-loop μ-loop
 returns c =
@@ -74,14 +47,14 @@ write-word-spec =
     Inv-loop
     μ-loop
     loop-holds
-    sub-frame
-    mul-frame
-    shr-frame
-    cast-frame
-    add-frame
-    slice-write-frame
-    add-k
-    loop-less
+    (λ c. search needs)
+    (λ c. search needs)
+    (λ c. search needs)
+    (λ c. search needs)
+    (λ c. search needs)
+    (λ c. search needs)
+    (λ c. search needs)
+    (λ c. search needs)
     loop-again
-    same-length
+    (λ c. search needs)
     returns)

@@ -13,33 +13,12 @@ use borrow.Author.Needs.{needs}
 use Rattle.frame.proofs.data_eights.Statement.{statement}
 use Rattle.frame.proofs.data_eights.Tie as tie
 
-cast-c : tie.Need-cast-c
-cast-c c = search needs
-
-lay-requires : tie.Need-lay-requires
-lay-requires c κs = search needs
-
-same-length : tie.Need-same-length
-same-length c = search needs
-
 returns : tie.Need-returns
 returns c =
     let s = c .before .before .before .before .before .before .before .before .before in
     λ k l.
     c .before .before .lay .ensures .1 k (omega arith) l
     ∙ laid-before (s .args .p) (bitsOf (now (s .args .lsd))) k (s .args .d) (s .pre .1 .0) (s .pre .1 .1 .2) (inl (omega arith))
-
-cast-a : tie.Need-cast-a
-cast-a c = search needs
-
-sub-a : tie.Need-sub-a
-sub-a c = search needs
-
-cast-b : tie.Need-cast-b
-cast-b c = search needs
-
-add-b : tie.Need-add-b
-add-b c = search needs
 
 lay-requires-2 : tie.Need-lay-requires-2
 lay-requires-2 c κs =
@@ -50,9 +29,6 @@ lay-requires-2 c κs =
       (s .pre .0, omega arith, ten, omega arith, omega arith),
       omega (arith, columns-to (p .columns) 0 a (omega arith), columns-le (p .columns) a (omega arith) ten),
     )
-
-own-eights-requires : tie.Need-own-eights-requires
-own-eights-requires c κs = search needs
 
 mul-lay : tie.Need-mul-lay
 mul-lay c =
@@ -67,9 +43,6 @@ add-lay c =
     let p = s .args .p in
     let b = (p .last + 7) / 8 in
     omega (arith, columns-le (p .columns) b (omega arith) (omega arith))
-
-sub-lay : tie.Need-sub-lay
-sub-lay c = search needs
 
 add-lay-2 : tie.Need-add-lay-2
 add-lay-2 c =
@@ -87,9 +60,6 @@ lay-requires-3 c κs =
       (c .before .before .before .own-eights .kept .0 ∙ c .before .before .before .before .before .before .before .lay2 .kept .0 ∙ s .pre .0, ten, omega arith, omega arith, omega arith),
       omega (arith, s .pre .1 .0 .after, columns-to (p .columns) b 10 ten),
     )
-
-same-length-2 : tie.Need-same-length-2
-same-length-2 c = search needs
 
 returns-2 : tie.Need-returns-2
 returns-2 c =
@@ -112,20 +82,20 @@ pub data-eights-spec : {M : Type 1} → statement M
 data-eights-spec =
     tie.close
     (tie.spec
-    cast-c
-    lay-requires
-    same-length
+    (λ c. search needs)
+    (λ c κs. search needs)
+    (λ c. search needs)
     returns
-    cast-a
-    sub-a
-    cast-b
-    add-b
+    (λ c. search needs)
+    (λ c. search needs)
+    (λ c. search needs)
+    (λ c. search needs)
     lay-requires-2
-    own-eights-requires
+    (λ c κs. search needs)
     mul-lay
     add-lay
-    sub-lay
+    (λ c. search needs)
     add-lay-2
     lay-requires-3
-    same-length-2
+    (λ c. search needs)
     returns-2)

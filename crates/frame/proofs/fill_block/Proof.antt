@@ -17,50 +17,11 @@ use borrow.Author.Needs.{needs}
 use Rattle.frame.proofs.fill_block.Statement.{statement}
 use Rattle.frame.proofs.fill_block.Tie as tie
 
-cast-w : tie.Need-cast-w
-cast-w c = search needs
-
-cast-c : tie.Need-cast-c
-cast-c c = search needs
-
-mul-d : tie.Need-mul-d
-mul-d c = search needs
-
-cast-d : tie.Need-cast-d
-cast-d c = search needs
-
-add-d : tie.Need-add-d
-add-d c = search needs
-
-cast-d-2 : tie.Need-cast-d-2
-cast-d-2 c = search needs
-
-sub-d : tie.Need-sub-d
-sub-d c = search needs
-
-add-d-2 : tie.Need-add-d-2
-add-d-2 c = search needs
-
-slice-relend-prefix-write-frame : tie.Need-slice-relend-prefix-write-frame
-slice-relend-prefix-write-frame c = search needs
-
 slice-aggregate-write-frame : tie.Need-slice-aggregate-write-frame
 slice-aggregate-write-frame c = sym (length-take-le 80 (c .before .before .before .before .before .before .before .before .args .line .now) (omega arith))
 
 write-frame-requires : tie.Need-write-frame-requires
 write-frame-requires c κs = (length-take-le 80 (c .before .before .before .before .before .before .before .before .args .line .now) (omega arith), c .before .before .before .before .before .before .before .before .pre .1)
-
-sub-write-frame : tie.Need-sub-write-frame
-sub-write-frame c = search needs
-
-part-write-frame-start : tie.Need-part-write-frame-start
-part-write-frame-start c = search needs
-
-part-write-frame-end : tie.Need-part-write-frame-end
-part-write-frame-end c = search needs
-
-mul-write-frame : tie.Need-mul-write-frame
-mul-write-frame c = search needs
 
 write-frame-requires-2 : tie.Need-write-frame-requires-2
 write-frame-requires-2 c κs =
@@ -78,9 +39,6 @@ write-frame-requires-2 c κs =
         begun = λ e. omega (arith, eights-through p (ready .apart) e, ready .apart .until);
       },
     )
-
-same-length : tie.Need-same-length
-same-length c = search needs
 
 returns : tie.Need-returns
 returns c =
@@ -105,21 +63,21 @@ pub fill-block-spec : {M : Type 1} → statement M
 fill-block-spec =
     tie.close
     (tie.spec
-    cast-w
-    cast-c
-    mul-d
-    cast-d
-    add-d
-    cast-d-2
-    sub-d
-    add-d-2
-    slice-relend-prefix-write-frame
+    (λ c. search needs)
+    (λ c. search needs)
+    (λ c. search needs)
+    (λ c. search needs)
+    (λ c. search needs)
+    (λ c. search needs)
+    (λ c. search needs)
+    (λ c. search needs)
+    (λ c. search needs)
     slice-aggregate-write-frame
     write-frame-requires
-    sub-write-frame
-    part-write-frame-start
-    part-write-frame-end
-    mul-write-frame
+    (λ c. search needs)
+    (λ c. search needs)
+    (λ c. search needs)
+    (λ c. search needs)
     write-frame-requires-2
-    same-length
+    (λ c. search needs)
     returns)

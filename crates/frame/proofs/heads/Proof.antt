@@ -13,15 +13,6 @@ use borrow.Author.Needs.{needs}
 use Rattle.frame.proofs.heads.Statement.{statement}
 use Rattle.frame.proofs.heads.Tie as tie
 
-cast-c : tie.Need-cast-c
-cast-c c = search needs
-
-lay-top-requires : tie.Need-lay-top-requires
-lay-top-requires c κs = search needs
-
-same-length : tie.Need-same-length
-same-length c = search needs
-
 returns : tie.Need-returns
 returns c =
     let s = c .before .before .before .before .before .before .before .before in
@@ -31,15 +22,6 @@ returns c =
     c .before .before .lay-top .ensures k h
     ∙ heads-muted (a .p) (drop (8 * (a .v / 8 + k * 0)) bits) (a .v) k (s .pre .1)
     ∙ ap (λ (m : Bool). wordAt (headAt (a .p) (drop (a .v) (heard m bits))) k) (sym (c .before .before .before .before .if1 .taken))
-
-cast-lay-top : tie.Need-cast-lay-top
-cast-lay-top c = search needs
-
-lay-top-requires-2 : tie.Need-lay-top-requires-2
-lay-top-requires-2 c κs = search needs
-
-same-length-2 : tie.Need-same-length-2
-same-length-2 c = search needs
 
 returns-2 : tie.Need-returns-2
 returns-2 c =
@@ -55,11 +37,11 @@ pub heads-spec : {M : Type 1} → statement M
 heads-spec =
     tie.close
     (tie.spec
-    cast-c
-    lay-top-requires
-    same-length
+    (λ c. search needs)
+    (λ c κs. search needs)
+    (λ c. search needs)
     returns
-    cast-lay-top
-    lay-top-requires-2
-    same-length-2
+    (λ c. search needs)
+    (λ c κs. search needs)
+    (λ c. search needs)
     returns-2)

@@ -20,12 +20,6 @@ none : (p : Layout) → inEights p ≡ false → (p .columns ≡ 0) ⊎ (inEight
 none p f (inl z) = z
 none p f (inr t) = absurd (false≢true (sym f ∙ t))
 
-cast-c : tie.Need-cast-c
-cast-c c = search needs
-
-in-eights-requires : tie.Need-in-eights-requires
-in-eights-requires c κs = search needs
-
 mul-lay : tie.Need-mul-lay
 mul-lay c =
     let s = c .before .before .before .before .before .before in
@@ -38,9 +32,6 @@ add-lay c =
     let a = s .args in
     omega (arith, columns-le (a .p .columns) (a .a) (omega arith) (omega (arith, s .pre .1 .0 .runs)))
 
-add-lay-2 : tie.Need-add-lay-2
-add-lay-2 c = search needs
-
 lay-requires : tie.Need-lay-requires
 lay-requires c κs =
     let s = c .before .before .before .before .before .before in
@@ -52,9 +43,6 @@ lay-requires c κs =
       omega (arith, n, ordered, s .pre .1 .0 .after, columns-to k (a .a) (a .b) ordered, columns-le k (a .b) (omega arith) (omega arith)),
     )
 
-same-length : tie.Need-same-length
-same-length c = search needs
-
 returns : tie.Need-returns
 returns c =
     let s = c .before .before .before .before .before .before .before .before .before in
@@ -65,20 +53,11 @@ returns c =
       λ k l m. call .1 k l m ∙ laid-owned (a .p) (bitsOf (now (a .lsd))) (a .a) (a .b) k (a .d) (s .pre .1 .0) (s .pre .1 .1 .2) t (s .pre .0 .1) (s .pre .0 .2) l m,
     )
 
-cast-cut : tie.Need-cast-cut
-cast-cut c = search needs
-
-cast-cut-2 : tie.Need-cast-cut-2
-cast-cut-2 c = search needs
-
 cut-requires : tie.Need-cut-requires
 cut-requires c κs =
     let s = c .before .before .before .before .before .before .before .before in
     let a = s .args in
     (s .pre .0 .0, omega (arith, s .pre .1 .0 .runs), omega arith, omega arith, s .pre .1 .1 .0)
-
-same-length-2 : tie.Need-same-length-2
-same-length-2 c = search needs
 
 returns-2 : tie.Need-returns-2
 returns-2 c =
@@ -96,16 +75,16 @@ pub own-eights-spec : {M : Type 1} → statement M
 own-eights-spec =
     tie.close
     (tie.spec
-    cast-c
-    in-eights-requires
+    (λ c. search needs)
+    (λ c κs. search needs)
     mul-lay
     add-lay
-    add-lay-2
+    (λ c. search needs)
     lay-requires
-    same-length
+    (λ c. search needs)
     returns
-    cast-cut
-    cast-cut-2
+    (λ c. search needs)
+    (λ c. search needs)
     cut-requires
-    same-length-2
+    (λ c. search needs)
     returns-2)

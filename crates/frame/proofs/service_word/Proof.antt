@@ -10,18 +10,6 @@ use borrow.Author.Needs.{needs}
 use Rattle.frame.proofs.service_word.Statement.{statement}
 use Rattle.frame.proofs.service_word.Tie as tie
 
-octet-requires : tie.Need-octet-requires
-octet-requires c κs = search needs
-
-cast-result : tie.Need-cast-result
-cast-result c = search needs
-
-mul-result : tie.Need-mul-result
-mul-result c = search needs
-
-add-result : tie.Need-add-result
-add-result c = search needs
-
 returns : tie.Need-returns
 returns c =
     let a = c .before .args in
@@ -31,4 +19,4 @@ returns c =
     ∙ ap (λ (l : List Bool). l ++ octetBits (a .half)) (ap octetBits (c .octet .ensures) ∙ lowBits-back 8 (a .row) eight)
 
 pub service-word-spec : {M : Type 1} → statement M
-service-word-spec = tie.close (tie.spec octet-requires cast-result mul-result add-result returns)
+service-word-spec = tie.close (tie.spec (λ c κs. search needs) (λ c. search needs) (λ c. search needs) (λ c. search needs) returns)

@@ -32,29 +32,11 @@ second c =
     served-second (a .p) (a .service) (drop (a .d) (bitsOf (now (a .lsd)))) (getD (c .before .before .before .before .before .data-eights .last .0) 1 0) (s .pre .1 .0)
     (c .before .before .before .before .before .data-eights .ensures 1 (omega arith))
 
-data-eights-requires : tie.Need-data-eights-requires
-data-eights-requires c κs = search needs
-
-slice-read-ended : tie.Need-slice-read-ended
-slice-read-ended c = search needs
-
-cast-ended : tie.Need-cast-ended
-cast-ended c = search needs
-
 ended-requires : tie.Need-ended-requires
 ended-requires c κs = (omega arith, first c .0, first c .1)
 
-slice-read-ended-2 : tie.Need-slice-read-ended-2
-slice-read-ended-2 c = search needs
-
-cast-ended-2 : tie.Need-cast-ended-2
-cast-ended-2 c = search needs
-
 ended-requires-2 : tie.Need-ended-requires-2
 ended-requires-2 c κs = (omega arith, second c .0, second c .1)
-
-slice-write-lanes : tie.Need-slice-write-lanes
-slice-write-lanes c = search needs
 
 slice-write-lanes-2 : tie.Need-slice-write-lanes-2
 slice-write-lanes-2 c =
@@ -63,9 +45,6 @@ slice-write-lanes-2 c =
     let long : length l ≡ 10 = call .kept .0 ∙ c .before .before .before .before .before .before .before .before .before .before .pre .0 in
     let inside : 1 < length (set l 0 (c .before .before .ended .result)) = rw length-set (omega (arith, long)) in
     inside
-
-same-length : tie.Need-same-length
-same-length c = search needs
 
 returns : tie.Need-returns
 returns c =
@@ -83,14 +62,14 @@ pub tails-spec : {M : Type 1} → statement M
 tails-spec =
     tie.close
     (tie.spec
-    data-eights-requires
-    slice-read-ended
-    cast-ended
+    (λ c κs. search needs)
+    (λ c. search needs)
+    (λ c. search needs)
     ended-requires
-    slice-read-ended-2
-    cast-ended-2
+    (λ c. search needs)
+    (λ c. search needs)
     ended-requires-2
-    slice-write-lanes
+    (λ c. search needs)
     slice-write-lanes-2
-    same-length
+    (λ c. search needs)
     returns)

@@ -18,19 +18,10 @@ use borrow.Author.Needs.{needs}
 use Rattle.frame.proofs.write_block.Statement.{statement}
 use Rattle.frame.proofs.write_block.Tie as tie
 
-lengths-fit-requires : tie.Need-lengths-fit-requires
-lengths-fit-requires c κs = search needs
-
 returns : tie.Need-returns
 returns c =
     let a = c .before .before .before .before .before .args in
     told (a .mode) (a .header) (a .mute) (now (a .voice)) (now (a .lsd)) (now (a .line)) false (sym (c .before .lengths-fit .ensures) ∙ not-true _ (c .if1 .taken))
-
-layout-of-requires : tie.Need-layout-of-requires
-layout-of-requires c κs = search needs
-
-service-of-requires : tie.Need-service-of-requires
-service-of-requires c κs = search needs
 
 fill-block-requires : tie.Need-fill-block-requires
 fill-block-requires c κs =
@@ -46,9 +37,6 @@ fill-block-requires c κs =
         begun = λ e. refl;
       },
     )
-
-same-length : tie.Need-same-length
-same-length c = search needs
 
 returns-2 : tie.Need-returns-2
 returns-2 c =
@@ -66,10 +54,10 @@ pub write-block-spec : {M : Type 1} → statement M
 write-block-spec =
     tie.close
     (tie.spec
-    lengths-fit-requires
+    (λ c κs. search needs)
     returns
-    layout-of-requires
-    service-of-requires
+    (λ c κs. search needs)
+    (λ c κs. search needs)
     fill-block-requires
-    same-length
+    (λ c. search needs)
     returns-2)

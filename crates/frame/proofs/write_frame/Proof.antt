@@ -28,33 +28,12 @@ sum c k h =
     ap₂ _+_ (c .before .before .before .before .before .before .before .heads .ensures k h) (c .before .before .before .before .tails .ensures k h)
     ∙ parts-are (a .p) (lowBits 16 (a .service)) (drop (a .v) (heard (a .mute) (bitsOf (now (a .voice))))) (drop (a .d) (bitsOf (now (a .lsd)))) k (s .pre .1 .apart)
 
-slice-aggregate-heads : tie.Need-slice-aggregate-heads
-slice-aggregate-heads c = search needs
-
-heads-requires : tie.Need-heads-requires
-heads-requires c κs = search needs
-
-slice-aggregate-tails : tie.Need-slice-aggregate-tails
-slice-aggregate-tails c = search needs
-
-tails-requires : tie.Need-tails-requires
-tails-requires c κs = search needs
-
-slice-aggregate-write-sums : tie.Need-slice-aggregate-write-sums
-slice-aggregate-write-sums c = search needs
-
-slice-aggregate-write-sums-2 : tie.Need-slice-aggregate-write-sums-2
-slice-aggregate-write-sums-2 c = search needs
-
 write-sums-requires : tie.Need-write-sums-requires
 write-sums-requires c κs =
     let s = c .before .before .before .before .before .before .before .before .before .before .before .before in (
       (s .pre .0, c .before .before .before .before .before .before .before .heads .kept .0, c .before .before .before .before .tails .kept .0),
       λ k h. omega (arith, sum c k h, word-lt (s .args .p) (source c) k (s .pre .1 .apart .within)),
     )
-
-same-length : tie.Need-same-length
-same-length c = search needs
 
 returns : tie.Need-returns
 returns c =
@@ -67,12 +46,12 @@ pub write-frame-spec : {M : Type 1} → statement M
 write-frame-spec =
     tie.close
     (tie.spec
-    slice-aggregate-heads
-    heads-requires
-    slice-aggregate-tails
-    tails-requires
-    slice-aggregate-write-sums
-    slice-aggregate-write-sums-2
+    (λ c. search needs)
+    (λ c κs. search needs)
+    (λ c. search needs)
+    (λ c κs. search needs)
+    (λ c. search needs)
+    (λ c. search needs)
     write-sums-requires
-    same-length
+    (λ c. search needs)
     returns)

@@ -4,49 +4,13 @@ use borrow.Author.Needs.{needs}
 use Rattle.lines.proofs.put_standing.Statement.{statement}
 use Rattle.lines.proofs.put_standing.Tie as tie
 
-enum-told : tie.Need-enum-told
-enum-told c = search needs
-
-slice-aggregate-put-all : tie.Need-slice-aggregate-put-all
-slice-aggregate-put-all c = search needs
-
-put-all-requires : tie.Need-put-all-requires
-put-all-requires c κs = search needs
-
-enum-told-2 : tie.Need-enum-told-2
-enum-told-2 c = search needs
-
-slice-aggregate-put-all-2 : tie.Need-slice-aggregate-put-all-2
-slice-aggregate-put-all-2 c = search needs
-
-put-all-requires-2 : tie.Need-put-all-requires-2
-put-all-requires-2 c κs = search needs
-
-enum-told-3 : tie.Need-enum-told-3
-enum-told-3 c = search needs
-
-slice-aggregate-put-all-3 : tie.Need-slice-aggregate-put-all-3
-slice-aggregate-put-all-3 c = search needs
-
-put-all-requires-3 : tie.Need-put-all-requires-3
-put-all-requires-3 c κs = search needs
-
-same-length : tie.Need-same-length
-same-length c = search needs
-
 returns : tie.Need-returns
 unfolding textOf
 returns c = rw (c .before .before .before .before .before .enum-told .given .1) (c .before .before .put-all .ensures)
 
-same-length-2 : tie.Need-same-length-2
-same-length-2 c = search needs
-
 returns-2 : tie.Need-returns-2
 unfolding textOf
 returns-2 c = rw (c .before .before .before .before .before .enum-told2 .given .1) (c .before .before .put-all2 .ensures)
-
-same-length-3 : tie.Need-same-length-3
-same-length-3 c = search needs
 
 returns-3 : tie.Need-returns-3
 unfolding textOf
@@ -56,18 +20,18 @@ pub put-standing-spec : {M : Type 1} → statement M
 put-standing-spec =
     tie.close
     (tie.spec
-    enum-told
-    slice-aggregate-put-all
-    put-all-requires
-    enum-told-2
-    slice-aggregate-put-all-2
-    put-all-requires-2
-    enum-told-3
-    slice-aggregate-put-all-3
-    put-all-requires-3
-    same-length
+    (λ c. search needs)
+    (λ c. search needs)
+    (λ c κs. search needs)
+    (λ c. search needs)
+    (λ c. search needs)
+    (λ c κs. search needs)
+    (λ c. search needs)
+    (λ c. search needs)
+    (λ c κs. search needs)
+    (λ c. search needs)
     returns
-    same-length-2
+    (λ c. search needs)
     returns-2
-    same-length-3
+    (λ c. search needs)
     returns-3)

@@ -17,20 +17,11 @@ abbrev μ-loop : tie.MeasureT-loop
 μ-loop text₀ at recording start a₀ place₀ lost₀ s₀ count₀ turn₀ turn-end text a place lost s count turn =
     length recording - turn
 
-fresh-requires : tie.Need-fresh-requires Inv-loop μ-loop
-fresh-requires c κs = search needs
-
 loop-holds : tie.Need-loop-holds Inv-loop μ-loop
 loop-holds c = let st = c .before .before .before in begins _ _ _ _ _ (st .pre .1) (st .pre .2) (c .fresh .ensures)
 
 step-on-requires : tie.Need-step-on-requires Inv-loop μ-loop
 step-on-requires c κs = let g = c .before .loop .inv in (g .range, c .before .before .before .before .before .pre .0, g .inside)
-
-put-answer-requires : tie.Need-put-answer-requires Inv-loop μ-loop
-put-answer-requires c κs = search needs
-
-is-last-requires : tie.Need-is-last-requires Inv-loop μ-loop
-is-last-requires c κs = search needs
 
 returns : tie.Need-returns Inv-loop μ-loop
 returns c =
@@ -43,9 +34,6 @@ same-length c = written-length (returns c)
 
 count-after-requires : tie.Need-count-after-requires Inv-loop μ-loop
 count-after-requires c κs = let g = c .before .before .before .before .before .before .before .before .loop .inv in let t = c .before .before .before .before .before .before .before .loop-test .taken in let m = c .before .before .before .before .before .before .before .before .before .before .before .before .pre .0 in omega (arith, g .low)
-
-add-turn : tie.Need-add-turn Inv-loop μ-loop
-add-turn c = search needs
 
 loop-less : tie.Need-loop-less Inv-loop μ-loop
 loop-less c = omega arith
@@ -69,15 +57,15 @@ put-walk-spec =
     (tie.spec
     Inv-loop
     μ-loop
-    fresh-requires
+    (λ c κs. search needs)
     loop-holds
     step-on-requires
-    put-answer-requires
-    is-last-requires
+    (λ c κs. search needs)
+    (λ c κs. search needs)
     same-length
     returns
     count-after-requires
-    add-turn
+    (λ c. search needs)
     loop-less
     loop-again
     same-length-2

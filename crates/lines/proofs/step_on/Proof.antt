@@ -6,9 +6,6 @@ use borrow.Author.Needs.{needs}
 use Rattle.lines.proofs.step_on.Statement.{statement}
 use Rattle.lines.proofs.step_on.Tie as tie
 
-look-from-requires : tie.Need-look-from-requires
-look-from-requires c κs = search needs
-
 returns : tie.Need-returns
 returns c =
     let st = c .before .before in
@@ -22,4 +19,4 @@ returns c =
     })
 
 pub step-on-spec : {M : Type 1} → statement M
-step-on-spec = tie.close (tie.spec look-from-requires returns)
+step-on-spec = tie.close (tie.spec (λ c κs. search needs) returns)

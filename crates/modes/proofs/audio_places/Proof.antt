@@ -8,9 +8,6 @@ use borrow.Author.Needs.{needs}
 use Rattle.modes.proofs.audio_places.Statement.{statement}
 use Rattle.modes.proofs.audio_places.Tie as tie
 
-array-read-w : tie.Need-array-read-w
-array-read-w c = search needs
-
 returns : tie.Need-returns
 unfolding audioEntry audioPlaces audioTable beside
 returns c =
@@ -29,4 +26,4 @@ returns-3 : tie.Need-returns-3
 returns-3 c = sym (audio-past _ (c .if1 .left))
 
 pub audio-places-spec : {M : Type 1} → statement M
-audio-places-spec = tie.close (tie.spec array-read-w returns returns-2 returns-3)
+audio-places-spec = tie.close (tie.spec (λ c. search needs) returns returns-2 returns-3)

@@ -12,9 +12,6 @@ use Rattle.modes.proofs.bits_per_frame.Tie as tie
 fit-of : (c : tie.After-held-by) → Fit (c .held-by .result)
 fit-of c = subst⁻¹ Fit (c .held-by .ensures) (held-fit (c .before .args .mode) (c .before .args .owner))
 
-held-by-requires : tie.Need-held-by-requires
-held-by-requires c κs = search needs
-
 add-columns : tie.Need-add-columns
 add-columns c = omega (arith, (fit-of (c .before)) .ends)
 
@@ -27,18 +24,6 @@ add-channel c = omega (arith, (fit-of (c .before .before .before)) .closes)
 sub-channel : tie.Need-sub-channel
 sub-channel c = omega (arith, (fit-of (c .before .before .before .before)) .runs)
 
-cast-result : tie.Need-cast-result
-cast-result c = search needs
-
-mul-result : tie.Need-mul-result
-mul-result c = search needs
-
-cast-result-2 : tie.Need-cast-result-2
-cast-result-2 c = search needs
-
-add-result : tie.Need-add-result
-add-result c = search needs
-
 returns : tie.Need-returns
 returns c =
     let h = c .before .before .before .before in
@@ -48,13 +33,13 @@ pub bits-per-frame-spec : {M : Type 1} → statement M
 bits-per-frame-spec =
     tie.close
     (tie.spec
-    held-by-requires
+    (λ c κs. search needs)
     add-columns
     sub-columns
     add-channel
     sub-channel
-    cast-result
-    mul-result
-    cast-result-2
-    add-result
+    (λ c. search needs)
+    (λ c. search needs)
+    (λ c. search needs)
+    (λ c. search needs)
     returns)

@@ -9,15 +9,9 @@ returns : tie.Need-returns
 unfolding evenFrame
 returns c = rw (c .if1 .taken)
 
-sub-t4 : tie.Need-sub-t4
-sub-t4 c = search needs
-
-mul-t6 : tie.Need-mul-t6
-mul-t6 c = search needs
-
 returns-2 : tie.Need-returns-2
 unfolding evenFrame
 returns-2 c = refl
 
 pub even-frame-spec : {M : Type 1} → statement M
-even-frame-spec = tie.close (tie.spec returns sub-t4 mul-t6 returns-2)
+even-frame-spec = tie.close (tie.spec returns (λ c. search needs) (λ c. search needs) returns-2)

@@ -18,18 +18,6 @@ shown : (m : Mode) (o s : Owner) (p q : Places) (r b : Bool) → p ≡ heldBy m 
 shown m o s p q r b ep eq h t =
     clash-is (heldBy m o) (heldBy m s) (held-fit m o) (held-fit m s) ∙ sym (ap₂ touching ep eq) ∙ sym h ∙ t
 
-held-by-requires : tie.Need-held-by-requires
-held-by-requires c κs = search needs
-
-held-by-requires-2 : tie.Need-held-by-requires-2
-held-by-requires-2 c κs = search needs
-
-touch-requires : tie.Need-touch-requires
-touch-requires c κs = search needs
-
-turn-off-requires : tie.Need-turn-off-requires
-turn-off-requires c κs = search needs
-
 returns : tie.Need-returns
 unfolding givenWay
 returns c =
@@ -48,9 +36,9 @@ pub give-way-spec : {M : Type 1} → statement M
 give-way-spec =
     tie.close
     (tie.spec
-    held-by-requires
-    held-by-requires-2
-    touch-requires
-    turn-off-requires
+    (λ c κs. search needs)
+    (λ c κs. search needs)
+    (λ c κs. search needs)
+    (λ c κs. search needs)
     returns
     returns-2)

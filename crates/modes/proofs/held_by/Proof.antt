@@ -4,24 +4,6 @@ use borrow.Author.Needs.{needs}
 use Rattle.modes.proofs.held_by.Statement.{statement}
 use Rattle.modes.proofs.held_by.Tie as tie
 
-enum-told : tie.Need-enum-told
-enum-told c = search needs
-
-enum-told-2 : tie.Need-enum-told-2
-enum-told-2 c = search needs
-
-audio-places-requires : tie.Need-audio-places-requires
-audio-places-requires c κs = search needs
-
-enum-told-3 : tie.Need-enum-told-3
-enum-told-3 c = search needs
-
-lsd-places-requires : tie.Need-lsd-places-requires
-lsd-places-requires c κs = search needs
-
-enum-told-4 : tie.Need-enum-told-4
-enum-told-4 c = search needs
-
 returns : tie.Need-returns
 unfolding heldBy
 returns c = rw (c .enum-told .given .1)
@@ -42,12 +24,12 @@ pub held-by-spec : {M : Type 1} → statement M
 held-by-spec =
     tie.close
     (tie.spec
-    enum-told
-    enum-told-2
-    audio-places-requires
-    enum-told-3
-    lsd-places-requires
-    enum-told-4
+    (λ c. search needs)
+    (λ c. search needs)
+    (λ c κs. search needs)
+    (λ c. search needs)
+    (λ c κs. search needs)
+    (λ c. search needs)
     returns
     returns-2
     returns-3

@@ -11,21 +11,6 @@ use borrow.Author.Needs.{needs}
 use Rattle.modes.proofs.lsd_places.Statement.{statement}
 use Rattle.modes.proofs.lsd_places.Tie as tie
 
-mul-held : tie.Need-mul-held
-mul-held c = search needs
-
-array-copy-out-held : tie.Need-array-copy-out-held
-array-copy-out-held c = search needs
-
-array-read-t27 : tie.Need-array-read-t27
-array-read-t27 c = search needs
-
-array-read-t30 : tie.Need-array-read-t30
-array-read-t30 c = search needs
-
-array-read-t34 : tie.Need-array-read-t34
-array-read-t34 c = search needs
-
 returns : tie.Need-returns
 unfolding lsdEntry lsdPlaces lsdTable beside
 returns c =
@@ -40,10 +25,10 @@ pub lsd-places-spec : {M : Type 1} → statement M
 lsd-places-spec =
     tie.close
     (tie.spec
-    mul-held
-    array-copy-out-held
-    array-read-t27
-    array-read-t30
-    array-read-t34
+    (λ c. search needs)
+    (λ c. search needs)
+    (λ c. search needs)
+    (λ c. search needs)
+    (λ c. search needs)
     returns
     returns-2)

@@ -5,9 +5,6 @@ use borrow.Author.Needs.{needs}
 use Rattle.modes.proofs.next_block.Statement.{statement}
 use Rattle.modes.proofs.next_block.Tie as tie
 
-add-t4 : tie.Need-add-t4
-add-t4 c = search needs
-
 returns : tie.Need-returns
 unfolding following
 returns c = rw (lt-ltb _ _ (c .if1 .taken))
@@ -17,4 +14,4 @@ unfolding following
 returns-2 c = rw (le-ltb _ _ (c .if1 .left))
 
 pub next-block-spec : {M : Type 1} → statement M
-next-block-spec = tie.close (tie.spec add-t4 returns returns-2)
+next-block-spec = tie.close (tie.spec (λ c. search needs) returns returns-2)

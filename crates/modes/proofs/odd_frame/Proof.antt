@@ -5,9 +5,6 @@ use borrow.Author.Needs.{needs}
 use Rattle.modes.proofs.odd_frame.Statement.{statement}
 use Rattle.modes.proofs.odd_frame.Tie as tie
 
-even-frame-requires : tie.Need-even-frame-requires
-even-frame-requires c κs = search needs
-
 add-t3 : tie.Need-add-t3
 unfolding evenFrame
 add-t3 c = rw (c .before .even-frame .ensures) (omega arith)
@@ -17,4 +14,4 @@ unfolding evenFrame oddFrame
 returns c = rw (c .before .even-frame .ensures)
 
 pub odd-frame-spec : {M : Type 1} → statement M
-odd-frame-spec = tie.close (tie.spec even-frame-requires add-t3 returns)
+odd-frame-spec = tie.close (tie.spec (λ c κs. search needs) add-t3 returns)

@@ -13,21 +13,9 @@ use Rattle.modes.proofs.owner_of.Tie as tie
 shown : (p q : Places) (o : OctetNumber) (bit : ℕ) (r b : Bool) → p ≡ q → r ≡ holds p o bit → r ≡ b → holds q o bit ≡ b
 shown p q o bit r b e h t = sym (ap (λ (x : Places). holds x o bit) e) ∙ sym h ∙ t
 
-held-by-requires : tie.Need-held-by-requires
-held-by-requires c κs = search needs
-
-is-held-requires : tie.Need-is-held-requires
-is-held-requires c κs = search needs
-
 returns : tie.Need-returns
 unfolding ownerOf
 returns c = rw (shown _ _ _ _ _ _ (c .before .before .held-by .ensures) (c .before .is-held .ensures) (c .if1 .taken))
-
-held-by-requires-2 : tie.Need-held-by-requires-2
-held-by-requires-2 c κs = search needs
-
-is-held-requires-2 : tie.Need-is-held-requires-2
-is-held-requires-2 c κs = search needs
 
 returns-2 : tie.Need-returns-2
 unfolding ownerOf
@@ -37,12 +25,6 @@ returns-2 c =
       shown _ _ _ _ _ _ (first .before .before .held-by .ensures) (first .before .is-held .ensures) (first .if1 .left),
       shown _ _ _ _ _ _ (c .before .before .held-by2 .ensures) (c .before .is-held2 .ensures) (c .if2 .taken),
     )
-
-held-by-requires-3 : tie.Need-held-by-requires-3
-held-by-requires-3 c κs = search needs
-
-is-held-requires-3 : tie.Need-is-held-requires-3
-is-held-requires-3 c κs = search needs
 
 returns-3 : tie.Need-returns-3
 unfolding ownerOf
@@ -70,13 +52,13 @@ pub owner-of-spec : {M : Type 1} → statement M
 owner-of-spec =
     tie.close
     (tie.spec
-    held-by-requires
-    is-held-requires
+    (λ c κs. search needs)
+    (λ c κs. search needs)
     returns
-    held-by-requires-2
-    is-held-requires-2
+    (λ c κs. search needs)
+    (λ c κs. search needs)
     returns-2
-    held-by-requires-3
-    is-held-requires-3
+    (λ c κs. search needs)
+    (λ c κs. search needs)
     returns-3
     returns-4)

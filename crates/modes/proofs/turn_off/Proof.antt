@@ -3,24 +3,6 @@ use borrow.Author.Needs.{needs}
 use Rattle.modes.proofs.turn_off.Statement.{statement}
 use Rattle.modes.proofs.turn_off.Tie as tie
 
-enum-told : tie.Need-enum-told
-enum-told c = search needs
-
-enum-told-2 : tie.Need-enum-told-2
-enum-told-2 c = search needs
-
-with-audio-requires : tie.Need-with-audio-requires
-with-audio-requires c κs = search needs
-
-enum-told-3 : tie.Need-enum-told-3
-enum-told-3 c = search needs
-
-with-lsd-requires : tie.Need-with-lsd-requires
-with-lsd-requires c κs = search needs
-
-enum-told-4 : tie.Need-enum-told-4
-enum-told-4 c = search needs
-
 returns : tie.Need-returns
 returns c = rw (c .enum-told .given .1)
 
@@ -37,12 +19,12 @@ pub turn-off-spec : {M : Type 1} → statement M
 turn-off-spec =
     tie.close
     (tie.spec
-    enum-told
-    enum-told-2
-    with-audio-requires
-    enum-told-3
-    with-lsd-requires
-    enum-told-4
+    (λ c. search needs)
+    (λ c. search needs)
+    (λ c κs. search needs)
+    (λ c. search needs)
+    (λ c κs. search needs)
+    (λ c. search needs)
     returns
     returns-2
     returns-3

@@ -11,39 +11,12 @@ use Rattle.packing.proofs.FillLaws.{appended}
 use Rattle.packing.proofs.append.Statement.{statement}
 use Rattle.packing.proofs.append.Tie as tie
 
-sub-eight : tie.Need-sub-eight
-sub-eight c = search needs
-
-mul-eight : tie.Need-mul-eight
-mul-eight c = search needs
-
-shl-eight : tie.Need-shl-eight
-shl-eight c = search needs
-
-add-if1 : tie.Need-add-if1
-add-if1 c = search needs
-
-put-requires : tie.Need-put-requires
-put-requires c κs = search needs
-
-same-length : tie.Need-same-length
-same-length c = search needs
-
 returns : tie.Need-returns
 returns c =
     let a = c .before .before .before .before .before .before .args in
     let p = c .before .before .put in
     λ bs xs hx hv h.
     appended bs xs (now (a .out)) (p .last .0) (a .at) (a .n) 8 (omega arith) hx h (p .kept .0) (inl refl) (λ ys l e. p .ensures bs ys l (rw hv at e) h)
-
-sub-put : tie.Need-sub-put
-sub-put c = search needs
-
-put-requires-2 : tie.Need-put-requires-2
-put-requires-2 c κs = search needs
-
-same-length-2 : tie.Need-same-length-2
-same-length-2 c = search needs
 
 returns-2 : tie.Need-returns-2
 returns-2 c =
@@ -64,15 +37,15 @@ pub append-spec : {M : Type 1} → statement M
 append-spec =
     tie.close
     (tie.spec
-    sub-eight
-    mul-eight
-    shl-eight
-    add-if1
-    put-requires
-    same-length
+    (λ c. search needs)
+    (λ c. search needs)
+    (λ c. search needs)
+    (λ c. search needs)
+    (λ c κs. search needs)
+    (λ c. search needs)
     returns
-    sub-put
-    put-requires-2
-    same-length-2
+    (λ c. search needs)
+    (λ c κs. search needs)
+    (λ c. search needs)
     returns-2
     returns-3)

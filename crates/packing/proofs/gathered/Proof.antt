@@ -13,24 +13,6 @@ use Rattle.packing.proofs.LaneLaws.{picked-one, picked-runs}
 use Rattle.packing.proofs.gathered.Statement.{statement}
 use Rattle.packing.proofs.gathered.Tie as tie
 
-add-two : tie.Need-add-two
-add-two c = search needs
-
-add-four : tie.Need-add-four
-add-four c = search needs
-
-whole-eight-at-requires : tie.Need-whole-eight-at-requires
-whole-eight-at-requires c κs = search needs
-
-add-octets : tie.Need-add-octets
-add-octets c = search needs
-
-sub-octets : tie.Need-sub-octets
-sub-octets c = search needs
-
-shr-octets : tie.Need-shr-octets
-shr-octets c = search needs
-
 joined-requires : tie.Need-joined-requires
 joined-requires c κs =
     let n = c .before .before .args .run .bits in
@@ -73,12 +55,12 @@ pub gathered-spec : {M : Type 1} → statement M
 gathered-spec =
     tie.close
     (tie.spec
-    add-two
-    add-four
-    whole-eight-at-requires
-    add-octets
-    sub-octets
-    shr-octets
+    (λ c. search needs)
+    (λ c. search needs)
+    (λ c κs. search needs)
+    (λ c. search needs)
+    (λ c. search needs)
+    (λ c. search needs)
     joined-requires
     joined-requires-2
     joined-requires-3

@@ -14,19 +14,10 @@ exact : (w n u x : ℕ) → (2 ^ (n + n) - 1) * u < 2 ^ 64
     → (bitAnd (x / 2 ^ w) ((2 ^ n - 1) * u) * 2 ^ n) % 2 ^ 64 + bitAnd x ((2 ^ n - 1) * u) ≡ join w n ((2 ^ n - 1) * u) x
 exact w n u x h = ap (λ (y : ℕ). y + bitAnd x ((2 ^ n - 1) * u)) (mod-eq-of-lt (omega (arith, h, join-le w n u x)))
 
-ones-requires : tie.Need-ones-requires
-ones-requires c κs = search needs
-
 mul-mask : tie.Need-mul-mask
 mul-mask c =
     let a = c .before .args in
     rw (c .ones .ensures) (omega (arith, all-ones (a .n) (a .each)))
-
-shr-result : tie.Need-shr-result
-shr-result c = search needs
-
-shl-result : tie.Need-shl-result
-shl-result c = search needs
 
 add-result : tie.Need-add-result
 add-result c =
@@ -46,4 +37,4 @@ returns c =
     )
 
 pub joined-spec : {M : Type 1} → statement M
-joined-spec = tie.close (tie.spec ones-requires mul-mask shr-result shl-result add-result returns)
+joined-spec = tie.close (tie.spec (λ c κs. search needs) mul-mask (λ c. search needs) (λ c. search needs) add-result returns)

@@ -45,30 +45,6 @@ loop-holds c =
     let e : min 0 (c .args .n) ≡ 0 = omega arith in
     (omega arith, search needs, λ bs xs hx hv h. rw (e, append-nil bs) (h .held))
 
-sub-out : tie.Need-sub-out Inv-loop μ-loop
-sub-out c = search needs
-
-mul-out : tie.Need-mul-out Inv-loop μ-loop
-mul-out c = search needs
-
-shr-out : tie.Need-shr-out Inv-loop μ-loop
-shr-out c = search needs
-
-cast-out : tie.Need-cast-out Inv-loop μ-loop
-cast-out c = search needs
-
-add-out : tie.Need-add-out Inv-loop μ-loop
-add-out c = search needs
-
-slice-write-out : tie.Need-slice-write-out Inv-loop μ-loop
-slice-write-out c = search needs
-
-add-k : tie.Need-add-k Inv-loop μ-loop
-add-k c = search needs
-
-loop-less : tie.Need-loop-less Inv-loop μ-loop
-loop-less c = search needs
-
 loop-again : tie.Need-loop-again Inv-loop μ-loop
 loop-again c =
     let l = c .before .before .loop in
@@ -81,9 +57,6 @@ loop-again c =
           (λ w. subst goal (sym (w .1)) (put-all first (l .out) (a .at) (a .n) (a .x) (l .k) (w .0 .left) (l .inv .2)))
           (c .if1 .came),
     )
-
-same-length : tie.Need-same-length Inv-loop μ-loop
-same-length c = search needs
 
 returns : tie.Need-returns Inv-loop μ-loop
 unfolding Put
@@ -101,14 +74,14 @@ put-spec =
     Inv-loop
     μ-loop
     loop-holds
-    sub-out
-    mul-out
-    shr-out
-    cast-out
-    add-out
-    slice-write-out
-    add-k
-    loop-less
+    (λ c. search needs)
+    (λ c. search needs)
+    (λ c. search needs)
+    (λ c. search needs)
+    (λ c. search needs)
+    (λ c. search needs)
+    (λ c. search needs)
+    (λ c. search needs)
     loop-again
-    same-length
+    (λ c. search needs)
     returns)

@@ -27,24 +27,6 @@ loop-holds c =
     let none : a .from - a .from ≡ 0 = omega arith in
     (omega arith, omega arith, omega arith, search needs, λ bs h. rw (none, append-nil bs) h)
 
-shared-slice-read-wide : tie.Need-shared-slice-read-wide Inv-loop μ-loop
-shared-slice-read-wide c = search needs
-
-wide-requires : tie.Need-wide-requires Inv-loop μ-loop
-wide-requires c κs = search needs
-
-append-bit-requires : tie.Need-append-bit-requires Inv-loop μ-loop
-append-bit-requires c κs = search needs
-
-add-done : tie.Need-add-done Inv-loop μ-loop
-add-done c = search needs
-
-add-o : tie.Need-add-o Inv-loop μ-loop
-add-o c = search needs
-
-loop-less : tie.Need-loop-less Inv-loop μ-loop
-loop-less c = search needs
-
 loop-again : tie.Need-loop-again Inv-loop μ-loop
 loop-again c =
     let l = c .before .before .before .before .before .before .before .loop in
@@ -60,9 +42,6 @@ loop-again c =
           (c .before .before .append-bit .ensures (bs ++ runs 7 1 line (a .from) (l .o - a .from)) (runs 7 1 line (l .o) 1) (length-runs 7 1 line (l .o) 1 (omega arith)) (last-bit line (l .o) ∙ ap (λ (x : ℕ). x % 2) (sym (w .ensures .0))) (l .inv .4 bs h)),
     )
 
-same-length : tie.Need-same-length Inv-loop μ-loop
-same-length c = search needs
-
 returns : tie.Need-returns Inv-loop μ-loop
 returns c =
     let l = c .before .loop in
@@ -77,12 +56,12 @@ sort-bits-spec =
     Inv-loop
     μ-loop
     loop-holds
-    shared-slice-read-wide
-    wide-requires
-    append-bit-requires
-    add-done
-    add-o
-    loop-less
+    (λ c. search needs)
+    (λ c κs. search needs)
+    (λ c κs. search needs)
+    (λ c. search needs)
+    (λ c. search needs)
+    (λ c. search needs)
     loop-again
-    same-length
+    (λ c. search needs)
     returns)

@@ -20,29 +20,11 @@ laid : (line buf out : List ℕ) (s n k o at x : ℕ) → s + n ≤ 8 → n ≡ 
 laid line buf out s n k o at x fits e hx more bs h =
     rw e (more bs (runs s k line o 8) (length-runs s k line o 8 (omega arith)) (sym hx) h)
 
-gathered-requires : tie.Need-gathered-requires
-gathered-requires c κs = search needs
-
-append-requires : tie.Need-append-requires
-append-requires c κs = search needs
-
-same-length : tie.Need-same-length
-same-length c = search needs
-
 returns : tie.Need-returns
 returns c =
     let a = c .before .before .before .before .before .before .before .before .args in
     laid (now (a .line)) (now (a .out)) _ (a .run .start) (a .run .bits) 6 (a .o) (a .at) _ (omega arith) (omega arith)
     (c .before .before .before .gathered .ensures) (c .before .before .append .ensures)
-
-gathered-requires-2 : tie.Need-gathered-requires-2
-gathered-requires-2 c κs = search needs
-
-append-requires-2 : tie.Need-append-requires-2
-append-requires-2 c κs = search needs
-
-same-length-2 : tie.Need-same-length-2
-same-length-2 c = search needs
 
 returns-2 : tie.Need-returns-2
 returns-2 c =
@@ -50,29 +32,11 @@ returns-2 c =
     laid (now (a .line)) (now (a .out)) _ (a .run .start) (a .run .bits) 1 (a .o) (a .at) _ (omega arith) (omega arith)
     (c .before .before .before .gathered2 .ensures) (c .before .before .append2 .ensures)
 
-gathered-requires-3 : tie.Need-gathered-requires-3
-gathered-requires-3 c κs = search needs
-
-append-requires-3 : tie.Need-append-requires-3
-append-requires-3 c κs = search needs
-
-same-length-3 : tie.Need-same-length-3
-same-length-3 c = search needs
-
 returns-3 : tie.Need-returns-3
 returns-3 c =
     let a = c .before .before .before .before .before .before .before .before .before .before .args in
     laid (now (a .line)) (now (a .out)) _ (a .run .start) (a .run .bits) 2 (a .o) (a .at) _ (omega arith) (omega arith)
     (c .before .before .before .gathered3 .ensures) (c .before .before .append3 .ensures)
-
-gathered-requires-4 : tie.Need-gathered-requires-4
-gathered-requires-4 c κs = search needs
-
-append-requires-4 : tie.Need-append-requires-4
-append-requires-4 c κs = search needs
-
-same-length-4 : tie.Need-same-length-4
-same-length-4 c = search needs
 
 returns-4 : tie.Need-returns-4
 returns-4 c =
@@ -80,44 +44,17 @@ returns-4 c =
     laid (now (a .line)) (now (a .out)) _ (a .run .start) (a .run .bits) 3 (a .o) (a .at) _ (omega arith) (omega arith)
     (c .before .before .before .gathered4 .ensures) (c .before .before .append4 .ensures)
 
-gathered-requires-5 : tie.Need-gathered-requires-5
-gathered-requires-5 c κs = search needs
-
-append-requires-5 : tie.Need-append-requires-5
-append-requires-5 c κs = search needs
-
-same-length-5 : tie.Need-same-length-5
-same-length-5 c = search needs
-
 returns-5 : tie.Need-returns-5
 returns-5 c =
     let a = c .before .before .before .before .before .before .before .before .before .before .before .before .args in
     laid (now (a .line)) (now (a .out)) _ (a .run .start) (a .run .bits) 4 (a .o) (a .at) _ (omega arith) (omega arith)
     (c .before .before .before .gathered5 .ensures) (c .before .before .append5 .ensures)
 
-gathered-requires-6 : tie.Need-gathered-requires-6
-gathered-requires-6 c κs = search needs
-
-append-requires-6 : tie.Need-append-requires-6
-append-requires-6 c κs = search needs
-
-same-length-6 : tie.Need-same-length-6
-same-length-6 c = search needs
-
 returns-6 : tie.Need-returns-6
 returns-6 c =
     let a = c .before .before .before .before .before .before .before .before .before .before .before .before .before .args in
     laid (now (a .line)) (now (a .out)) _ (a .run .start) (a .run .bits) 8 (a .o) (a .at) _ (omega arith) (omega arith)
     (c .before .before .before .gathered6 .ensures) (c .before .before .append6 .ensures)
-
-gathered-requires-7 : tie.Need-gathered-requires-7
-gathered-requires-7 c κs = search needs
-
-append-requires-7 : tie.Need-append-requires-7
-append-requires-7 c κs = search needs
-
-same-length-7 : tie.Need-same-length-7
-same-length-7 c = search needs
 
 returns-7 : tie.Need-returns-7
 returns-7 c =
@@ -129,31 +66,31 @@ pub sort-eight-spec : {M : Type 1} → statement M
 sort-eight-spec =
     tie.close
     (tie.spec
-    gathered-requires
-    append-requires
-    same-length
+    (λ c κs. search needs)
+    (λ c κs. search needs)
+    (λ c. search needs)
     returns
-    gathered-requires-2
-    append-requires-2
-    same-length-2
+    (λ c κs. search needs)
+    (λ c κs. search needs)
+    (λ c. search needs)
     returns-2
-    gathered-requires-3
-    append-requires-3
-    same-length-3
+    (λ c κs. search needs)
+    (λ c κs. search needs)
+    (λ c. search needs)
     returns-3
-    gathered-requires-4
-    append-requires-4
-    same-length-4
+    (λ c κs. search needs)
+    (λ c κs. search needs)
+    (λ c. search needs)
     returns-4
-    gathered-requires-5
-    append-requires-5
-    same-length-5
+    (λ c κs. search needs)
+    (λ c κs. search needs)
+    (λ c. search needs)
     returns-5
-    gathered-requires-6
-    append-requires-6
-    same-length-6
+    (λ c κs. search needs)
+    (λ c κs. search needs)
+    (λ c. search needs)
     returns-6
-    gathered-requires-7
-    append-requires-7
-    same-length-7
+    (λ c κs. search needs)
+    (λ c κs. search needs)
+    (λ c. search needs)
     returns-7)

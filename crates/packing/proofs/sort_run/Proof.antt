@@ -37,21 +37,6 @@ loop-holds c =
     let none : a .from - a .from ≡ 0 = omega arith in
     (omega arith, omega arith, omega arith, omega arith, search needs, λ bs h. rw (none, append-nil bs) h)
 
-add-loop : tie.Need-add-loop Inv-loop μ-loop
-add-loop c = search needs
-
-sort-eight-requires : tie.Need-sort-eight-requires Inv-loop μ-loop
-sort-eight-requires c κs = search needs
-
-add-at : tie.Need-add-at Inv-loop μ-loop
-add-at c = search needs
-
-add-o : tie.Need-add-o Inv-loop μ-loop
-add-o c = search needs
-
-loop-less : tie.Need-loop-less Inv-loop μ-loop
-loop-less c = search needs
-
 loop-again : tie.Need-loop-again Inv-loop μ-loop
 loop-again c =
     let l = c .before .before .before .before .before .loop in
@@ -69,9 +54,6 @@ loop-again c =
           (c .before .before .sort-eight .ensures (bs ++ runs s n line (a .from) (l .o - a .from)) (l .inv .5 bs h)),
     )
 
-same-length : tie.Need-same-length Inv-loop μ-loop
-same-length c = search needs
-
 returns-3 : tie.Need-returns-3 Inv-loop μ-loop
 returns-3 c =
     let l = c .before .loop in
@@ -88,11 +70,11 @@ sort-run-spec =
     returns
     returns-2
     loop-holds
-    add-loop
-    sort-eight-requires
-    add-at
-    add-o
-    loop-less
+    (λ c. search needs)
+    (λ c κs. search needs)
+    (λ c. search needs)
+    (λ c. search needs)
+    (λ c. search needs)
     loop-again
-    same-length
+    (λ c. search needs)
     returns-3)

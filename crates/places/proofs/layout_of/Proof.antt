@@ -19,12 +19,6 @@ laid m v d n ev ed en =
     ap (λ (k : ℕ). record { width = v .to; columns = k; first = d .first .0; last = d .last .0 }) en
     ∙ ap₂ (λ (x y : Places). record { width = x .to; columns = min (8 - y .from) (7 - x .to); first = y .first .0; last = y .last .0 }) ev ed
 
-held-by-requires : tie.Need-held-by-requires
-held-by-requires c κs = search needs
-
-held-by-requires-2 : tie.Need-held-by-requires-2
-held-by-requires-2 c κs = search needs
-
 sub-left : tie.Need-sub-left
 sub-left c =
     let a = c .before .before .before .args in
@@ -43,4 +37,4 @@ returns-2 c = laid _ _ _ _ (c .before .before .before .before .held-by .ensures)
 
 pub layout-of-spec : {M : Type 1} → statement M
 layout-of-spec =
-    tie.close (tie.spec held-by-requires held-by-requires-2 sub-left sub-wanted returns returns-2)
+    tie.close (tie.spec (λ c κs. search needs) (λ c κs. search needs) sub-left sub-wanted returns returns-2)

@@ -7,20 +7,8 @@ use borrow.Author.Needs.{needs}
 use Rattle.presets.proofs.write_preset.Statement.{statement}
 use Rattle.presets.proofs.write_preset.Tie as tie
 
-in-range-requires : tie.Need-in-range-requires
-in-range-requires c κs = search needs
-
-cast-t5 : tie.Need-cast-t5
-cast-t5 c = search needs
-
 mul-t6 : tie.Need-mul-t6
 mul-t6 c = omega (arith, chosen-small (c .before .before .args .s) (sym (c .before .in-range .ensures) ∙ c .if1 .taken))
-
-cast-t7 : tie.Need-cast-t7
-cast-t7 c = search needs
-
-mul-t8 : tie.Need-mul-t8
-mul-t8 c = search needs
 
 add-t9 : tie.Need-add-t9
 add-t9 c =
@@ -38,4 +26,4 @@ returns-2 c = rw (← c .before .in-range .ensures, c .if1 .left)
 
 pub write-preset-spec : {M : Type 1} → statement M
 write-preset-spec =
-    tie.close (tie.spec in-range-requires cast-t5 mul-t6 cast-t7 mul-t8 add-t9 returns returns-2)
+    tie.close (tie.spec (λ c κs. search needs) (λ c. search needs) mul-t6 (λ c. search needs) (λ c. search needs) add-t9 returns returns-2)

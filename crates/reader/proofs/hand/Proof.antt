@@ -27,57 +27,15 @@ lsd-handed : (m : Mode) (line voice lsd d : List ℕ) → fitting (length line) 
 unfolding lsdAfter
 lsd-handed m line voice lsd d f e = e ∙ rw f
 
-enum-told : tie.Need-enum-told
-enum-told c = search needs
-
-clear-requires : tie.Need-clear-requires
-clear-requires c κs = search needs
-
-clear-requires-2 : tie.Need-clear-requires-2
-clear-requires-2 c κs = search needs
-
-enum-told-2 : tie.Need-enum-told-2
-enum-told-2 c = search needs
-
-hand-out-requires : tie.Need-hand-out-requires
-hand-out-requires c κs = search needs
-
-enum-told-3 : tie.Need-enum-told-3
-enum-told-3 c = search needs
-
-clear-requires-3 : tie.Need-clear-requires-3
-clear-requires-3 c κs = search needs
-
-clear-requires-4 : tie.Need-clear-requires-4
-clear-requires-4 c κs = search needs
-
-same-length : tie.Need-same-length
-same-length c = search needs
-
-same-length-2 : tie.Need-same-length-2
-same-length-2 c = search needs
-
 returns : tie.Need-returns
 returns c =
     let fit = lengths _ _ _ (c .before .before .before .before .before .before .before .before .before .before .before .before .before .pre) in
     (rw (c .before .before .before .before .before .before .before .before .enum-told .given .1) (zeros _ 140 _ (c .before .before .before .before .before .before .clear .ensures) (fit .1)), rw (c .before .before .before .before .before .before .before .before .enum-told .given .1) (zeros _ 156 _ (c .before .before .clear2 .ensures) (fit .2)))
 
-same-length-3 : tie.Need-same-length-3
-same-length-3 c = search needs
-
-same-length-4 : tie.Need-same-length-4
-same-length-4 c = search needs
-
 returns-2 : tie.Need-returns-2
 returns-2 c =
     let h = c .before .before .before .before .hand-out .ensures in
     (rw (c .before .before .before .before .before .before .before .enum-told2 .given .1) (voice-handed _ _ _ _ _ (c .before .before .before .before .before .before .before .before .before .before .before .before .pre) (h .1)), rw (c .before .before .before .before .before .before .before .enum-told2 .given .1) (lsd-handed _ _ _ _ _ (c .before .before .before .before .before .before .before .before .before .before .before .before .pre) (h .2)))
-
-same-length-5 : tie.Need-same-length-5
-same-length-5 c = search needs
-
-same-length-6 : tie.Need-same-length-6
-same-length-6 c = search needs
 
 returns-3 : tie.Need-returns-3
 returns-3 c =
@@ -88,20 +46,20 @@ pub hand-spec : {M : Type 1} → statement M
 hand-spec =
     tie.close
     (tie.spec
-    enum-told
-    clear-requires
-    clear-requires-2
-    enum-told-2
-    hand-out-requires
-    enum-told-3
-    clear-requires-3
-    clear-requires-4
-    same-length
-    same-length-2
+    (λ c. search needs)
+    (λ c κs. search needs)
+    (λ c κs. search needs)
+    (λ c. search needs)
+    (λ c κs. search needs)
+    (λ c. search needs)
+    (λ c κs. search needs)
+    (λ c κs. search needs)
+    (λ c. search needs)
+    (λ c. search needs)
     returns
-    same-length-3
-    same-length-4
+    (λ c. search needs)
+    (λ c. search needs)
     returns-2
-    same-length-5
-    same-length-6
+    (λ c. search needs)
+    (λ c. search needs)
     returns-3)

@@ -7,15 +7,6 @@ use borrow.Author.Needs.{needs}
 use Rattle.reader.proofs.look.Statement.{statement}
 use Rattle.reader.proofs.look.Tie as tie
 
-ruling-of-requires : tie.Need-ruling-of-requires
-ruling-of-requires c κs = search needs
-
-enum-known-ruling : tie.Need-enum-known-ruling
-enum-known-ruling c = search needs
-
-enum-told : tie.Need-enum-told
-enum-told c = search needs
-
 step-requires : tie.Need-step-requires
 step-requires c κs =
     let t = taken _ _ _ _ (sym (c .before .before .ruling-of .ensures) ∙ c .enum-told .given .1) in
@@ -34,4 +25,4 @@ returns-2 c =
 pub look-spec : {M : Type 1} → statement M
 look-spec =
     tie.close
-    (tie.spec ruling-of-requires enum-known-ruling enum-told step-requires returns returns-2)
+    (tie.spec (λ c κs. search needs) (λ c. search needs) (λ c. search needs) step-requires returns returns-2)

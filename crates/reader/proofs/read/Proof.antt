@@ -7,15 +7,6 @@ use borrow.Author.Needs.{needs}
 use Rattle.reader.proofs.read.Statement.{statement}
 use Rattle.reader.proofs.read.Tie as tie
 
-ruling-of-requires : tie.Need-ruling-of-requires
-ruling-of-requires c κs = search needs
-
-enum-known-ruling : tie.Need-enum-known-ruling
-enum-known-ruling c = search needs
-
-enum-told : tie.Need-enum-told
-enum-told c = search needs
-
 step-requires : tie.Need-step-requires
 step-requires c κs =
     let t = taken _ _ _ _ (sym (c .before .before .ruling-of .ensures) ∙ c .enum-told .given .1) in
@@ -27,12 +18,6 @@ hand-requires c κs = taken-fitting _ _ _ _ (sym (c .before .before .before .bef
 
 returns : tie.Need-returns
 returns c = refused-is _ _ _ _ _ (sym (c .before .before .before .ruling-of .ensures) ∙ c .before .ruling .given .1)
-
-same-length : tie.Need-same-length
-same-length c = search needs
-
-same-length-2 : tie.Need-same-length-2
-same-length-2 c = search needs
 
 returns-2 : tie.Need-returns-2
 returns-2 c =
@@ -47,12 +32,12 @@ pub read-spec : {M : Type 1} → statement M
 read-spec =
     tie.close
     (tie.spec
-    ruling-of-requires
-    enum-known-ruling
-    enum-told
+    (λ c κs. search needs)
+    (λ c. search needs)
+    (λ c. search needs)
     step-requires
     hand-requires
     returns
-    same-length
-    same-length-2
+    (λ c. search needs)
+    (λ c. search needs)
     returns-2)

@@ -9,9 +9,6 @@ use Rattle.recording.proofs.StepLaws.{lent-block, Met, met, block-looke
 use Rattle.recording.proofs.look.Statement.{statement}
 use Rattle.recording.proofs.look.Tie as tie
 
-off-block-requires : tie.Need-off-block-requires
-off-block-requires c κs = search needs
-
 off-by-ruling-requires : tie.Need-off-by-ruling-requires
 off-by-ruling-requires c κs = sym (c .before .off-block .ensures) ∙ c .if1 .taken
 
@@ -28,17 +25,8 @@ meets c = met _ _ _ (sym (c .before .off-block .ensures) ∙ c .if1 .left)
 add-end : tie.Need-add-end
 add-end c = omega (arith, meets c .inside)
 
-sub-look : tie.Need-sub-look
-sub-look c = search needs
-
-part-look-start : tie.Need-part-look-start
-part-look-start c = search needs
-
 part-look-end : tie.Need-part-look-end
 part-look-end c = omega (arith, meets c .inside)
-
-look-requires : tie.Need-look-requires
-look-requires c κs = search needs
 
 moved-on-requires : tie.Need-moved-on-requires
 moved-on-requires c κs =
@@ -56,13 +44,13 @@ pub look-spec : {M : Type 1} → statement M
 look-spec =
     tie.close
     (tie.spec
-    off-block-requires
+    (λ c κs. search needs)
     off-by-ruling-requires
     returns
     add-end
-    sub-look
-    part-look-start
+    (λ c. search needs)
+    (λ c. search needs)
     part-look-end
-    look-requires
+    (λ c κs. search needs)
     moved-on-requires
     returns-2)

@@ -7,15 +7,6 @@ use Rattle.recording.proofs.StepLaws.{goes, off-here}
 use Rattle.recording.proofs.off_by_ruling.Statement.{statement}
 use Rattle.recording.proofs.off_by_ruling.Tie as tie
 
-ruling-of-requires : tie.Need-ruling-of-requires
-ruling-of-requires c κs = search needs
-
-enum-known-ruling : tie.Need-enum-known-ruling
-enum-known-ruling c = search needs
-
-enum-told : tie.Need-enum-told
-enum-told c = search needs
-
 seek-or-end-requires : tie.Need-seek-or-end-requires
 seek-or-end-requires c κs =
     let st = c .before .before .before .before in
@@ -33,9 +24,9 @@ pub off-by-ruling-spec : {M : Type 1} → statement M
 off-by-ruling-spec =
     tie.close
     (tie.spec
-    ruling-of-requires
-    enum-known-ruling
-    enum-told
+    (λ c κs. search needs)
+    (λ c. search needs)
+    (λ c. search needs)
     seek-or-end-requires
     returns
     returns-2)

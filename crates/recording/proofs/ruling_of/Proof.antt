@@ -5,18 +5,6 @@ use Rattle.recording.specs.Refusals.{rows, rulingOf}
 use Rattle.recording.proofs.ruling_of.Statement.{statement}
 use Rattle.recording.proofs.ruling_of.Tie as tie
 
-in-range-requires : tie.Need-in-range-requires
-in-range-requires c κs = search needs
-
-judge-requires : tie.Need-judge-requires
-judge-requires c κs = search needs
-
-judge-streams-requires : tie.Need-judge-streams-requires
-judge-streams-requires c κs = search needs
-
-judge-requires-2 : tie.Need-judge-requires-2
-judge-requires-2 c κs = search needs
-
 returns : tie.Need-returns
 unfolding rulingOf
 returns c =
@@ -27,4 +15,4 @@ returns c =
 pub ruling-of-spec : {M : Type 1} → statement M
 ruling-of-spec =
     tie.close
-    (tie.spec in-range-requires judge-requires judge-streams-requires judge-requires-2 returns)
+    (tie.spec (λ c κs. search needs) (λ c κs. search needs) (λ c κs. search needs) (λ c κs. search needs) returns)

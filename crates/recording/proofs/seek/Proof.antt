@@ -3,18 +3,6 @@ use borrow.Author.Needs.{needs}
 use Rattle.recording.proofs.seek.Statement.{statement}
 use Rattle.recording.proofs.seek.Tie as tie
 
-search-requires : tie.Need-search-requires
-search-requires c κs = search needs
-
-enum-known-found : tie.Need-enum-known-found
-enum-known-found c = search needs
-
-enum-known-found-2 : tie.Need-enum-known-found-2
-enum-known-found-2 c = search needs
-
-sub-t10 : tie.Need-sub-t10
-sub-t10 c = search needs
-
 returns : tie.Need-returns
 returns c = rw (← c .before .before .before .search .ensures, c .before .found .given .1)
 
@@ -24,4 +12,4 @@ returns-2 c = rw (← c .before .before .before .search .ensures, c .before .fou
 pub seek-spec : {M : Type 1} → statement M
 seek-spec =
     tie.close
-    (tie.spec search-requires enum-known-found enum-known-found-2 sub-t10 returns returns-2)
+    (tie.spec (λ c κs. search needs) (λ c. search needs) (λ c. search needs) (λ c. search needs) returns returns-2)

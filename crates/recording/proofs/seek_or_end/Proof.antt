@@ -3,14 +3,8 @@ use borrow.Author.Needs.{needs}
 use Rattle.recording.proofs.seek_or_end.Statement.{statement}
 use Rattle.recording.proofs.seek_or_end.Tie as tie
 
-seek-requires : tie.Need-seek-requires
-seek-requires c κs = search needs
-
 returns : tie.Need-returns
 returns c = rw (c .before .if1 .taken) (c .seek .ensures)
-
-sub-t7 : tie.Need-sub-t7
-sub-t7 c = search needs
 
 returns-2 : tie.Need-returns-2
 returns-2 c =
@@ -18,4 +12,4 @@ returns-2 c =
     rw (c .if1 .left, few)
 
 pub seek-or-end-spec : {M : Type 1} → statement M
-seek-or-end-spec = tie.close (tie.spec seek-requires returns sub-t7 returns-2)
+seek-or-end-spec = tie.close (tie.spec (λ c κs. search needs) returns (λ c. search needs) returns-2)

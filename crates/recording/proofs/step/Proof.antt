@@ -8,9 +8,6 @@ use Rattle.recording.proofs.StepLaws.{lent-block, Met, met, block-stepp
 use Rattle.recording.proofs.step.Statement.{statement}
 use Rattle.recording.proofs.step.Tie as tie
 
-off-block-requires : tie.Need-off-block-requires
-off-block-requires c κs = search needs
-
 off-by-ruling-requires : tie.Need-off-by-ruling-requires
 off-by-ruling-requires c κs = sym (c .before .off-block .ensures) ∙ c .if1 .taken
 
@@ -29,28 +26,13 @@ meets c = met _ _ _ (sym (c .before .off-block .ensures) ∙ c .if1 .left)
 add-end : tie.Need-add-end
 add-end c = omega (arith, meets c .inside)
 
-sub-read : tie.Need-sub-read
-sub-read c = search needs
-
-part-read-start : tie.Need-part-read-start
-part-read-start c = search needs
-
 part-read-end : tie.Need-part-read-end
 part-read-end c = omega (arith, meets c .inside)
-
-read-requires : tie.Need-read-requires
-read-requires c κs = search needs
 
 moved-on-requires : tie.Need-moved-on-requires
 moved-on-requires c κs =
     let m = meets (c .before .before .before .before .before .before .before .before) in
     omega (arith, m .inside, m .small)
-
-same-length : tie.Need-same-length
-same-length c = search needs
-
-same-length-2 : tie.Need-same-length-2
-same-length-2 c = search needs
 
 returns-2 : tie.Need-returns-2
 returns-2 c =
@@ -63,15 +45,15 @@ pub step-spec : {M : Type 1} → statement M
 step-spec =
     tie.close
     (tie.spec
-    off-block-requires
+    (λ c κs. search needs)
     off-by-ruling-requires
     returns
     add-end
-    sub-read
-    part-read-start
+    (λ c. search needs)
+    (λ c. search needs)
     part-read-end
-    read-requires
+    (λ c κs. search needs)
     moved-on-requires
-    same-length
-    same-length-2
+    (λ c. search needs)
+    (λ c. search needs)
     returns-2)

@@ -4,12 +4,6 @@ use Rattle.refusals.specs.Rows.{judged}
 use Rattle.refusals.proofs.judge.Statement.{statement}
 use Rattle.refusals.proofs.judge.Tie as tie
 
-enum-known-ruling : tie.Need-enum-known-ruling
-enum-known-ruling c = search needs
-
-enum-told : tie.Need-enum-told
-enum-told c = search needs
-
 returns : tie.Need-returns
 unfolding judged
 returns c = rw (c .before .enum-told .given .1, c .if1 .taken)
@@ -23,4 +17,4 @@ unfolding judged
 returns-3 c = rw (c .before .enum-told .given .1, c .if1 .left)
 
 pub judge-spec : {M : Type 1} → statement M
-judge-spec = tie.close (tie.spec enum-known-ruling enum-told returns returns-2 returns-3)
+judge-spec = tie.close (tie.spec (λ c. search needs) (λ c. search needs) returns returns-2 returns-3)

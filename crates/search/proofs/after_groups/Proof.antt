@@ -21,23 +21,11 @@ abbrev μ-loop : tie.MeasureT-loop
 loop-holds : tie.Need-loop-holds Inv-loop μ-loop
 loop-holds c = refl
 
-octets-from-requires : tie.Need-octets-from-requires Inv-loop μ-loop
-octets-from-requires c κs = search needs
-
 add-if1 : tie.Need-add-if1 Inv-loop μ-loop
 add-if1 c = omega arith
 
 returns : tie.Need-returns Inv-loop μ-loop
 returns c = c .before .before .before .loop .inv
-
-sub-none-of-group : tie.Need-sub-none-of-group Inv-loop μ-loop
-sub-none-of-group c = search needs
-
-part-none-of-group-start : tie.Need-part-none-of-group-start Inv-loop μ-loop
-part-none-of-group-start c = search needs
-
-part-none-of-group-end : tie.Need-part-none-of-group-end Inv-loop μ-loop
-part-none-of-group-end c = search needs
 
 none-of-group-requires : tie.Need-none-of-group-requires Inv-loop μ-loop
 none-of-group-requires c κs = simp (lent-part, length-drop) (omega arith)
@@ -73,12 +61,12 @@ after-groups-spec =
     Inv-loop
     μ-loop
     loop-holds
-    octets-from-requires
+    (λ c κs. search needs)
     add-if1
     returns
-    sub-none-of-group
-    part-none-of-group-start
-    part-none-of-group-end
+    (λ c. search needs)
+    (λ c. search needs)
+    (λ c. search needs)
     none-of-group-requires
     returns-2
     add-at

@@ -18,29 +18,14 @@ returns c = refl
 returns-2 : tie.Need-returns-2
 returns-2 c = refl
 
-add-if3 : tie.Need-add-if3
-add-if3 c = search needs
-
 returns-3 : tie.Need-returns-3
 returns-3 c = refl
-
-sub-none-of-group : tie.Need-sub-none-of-group
-sub-none-of-group c = search needs
-
-part-none-of-group-start : tie.Need-part-none-of-group-start
-part-none-of-group-start c = search needs
-
-part-none-of-group-end : tie.Need-part-none-of-group-end
-part-none-of-group-end c = search needs
 
 none-of-group-requires : tie.Need-none-of-group-requires
 none-of-group-requires c κs = simp (lent-part, length-drop) (omega arith)
 
 returns-4 : tie.Need-returns-4
 returns-4 c = refl
-
-add-result : tie.Need-add-result
-add-result c = search needs
 
 returns-5 : tie.Need-returns-5
 returns-5 c =
@@ -57,12 +42,12 @@ after-last-group-spec =
     (tie.spec
     returns
     returns-2
-    add-if3
+    (λ c. search needs)
     returns-3
-    sub-none-of-group
-    part-none-of-group-start
-    part-none-of-group-end
+    (λ c. search needs)
+    (λ c. search needs)
+    (λ c. search needs)
     none-of-group-requires
     returns-4
-    add-result
+    (λ c. search needs)
     returns-5)

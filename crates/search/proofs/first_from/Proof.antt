@@ -17,23 +17,11 @@ Inv-loop recording from end at₀ at = firstFrom from recording ≡ firstFrom at
 abbrev μ-loop : tie.MeasureT-loop
 μ-loop recording from end at₀ at = end - at
 
-octets-from-requires : tie.Need-octets-from-requires Inv-loop μ-loop
-octets-from-requires c κs = search needs
-
 loop-holds : tie.Need-loop-holds Inv-loop μ-loop
 loop-holds c = refl
 
-sub-is-aligned : tie.Need-sub-is-aligned Inv-loop μ-loop
-sub-is-aligned c = search needs
-
 part-is-aligned-start : tie.Need-part-is-aligned-start Inv-loop μ-loop
 part-is-aligned-start c = omega arith
-
-part-is-aligned-end : tie.Need-part-is-aligned-end Inv-loop μ-loop
-part-is-aligned-end c = search needs
-
-is-aligned-requires : tie.Need-is-aligned-requires Inv-loop μ-loop
-is-aligned-requires c κs = search needs
 
 -- the answer, by the test of the place reached
 by-test : (c : tie.After-is-aligned Inv-loop μ-loop)
@@ -70,12 +58,12 @@ first-from-spec =
     (tie.spec
     Inv-loop
     μ-loop
-    octets-from-requires
+    (λ c κs. search needs)
     loop-holds
-    sub-is-aligned
+    (λ c. search needs)
     part-is-aligned-start
-    part-is-aligned-end
-    is-aligned-requires
+    (λ c. search needs)
+    (λ c κs. search needs)
     returns
     add-at
     loop-less

@@ -16,9 +16,6 @@ Inv-loop part bits₀ i₀ bits i = (i ≤ 168) × (length bits ≡ 424) × Fold
 abbrev μ-loop : tie.MeasureT-loop
 μ-loop part bits₀ i₀ bits i = 168 - i
 
-laid-over-requires : tie.Need-laid-over-requires Inv-loop μ-loop
-laid-over-requires c κs = search needs
-
 loop-holds : tie.Need-loop-holds Inv-loop μ-loop
 loop-holds c = (omega arith, search needs, c .laid-over .ensures)
 
@@ -30,9 +27,6 @@ add-one-part-on c = omega arith
 
 shared-slice-read-one-part-on : tie.Need-shared-slice-read-one-part-on Inv-loop μ-loop
 shared-slice-read-one-part-on c = omega arith
-
-one-part-on-requires : tie.Need-one-part-on-requires Inv-loop μ-loop
-one-part-on-requires c κs = search needs
 
 add-bits : tie.Need-add-bits Inv-loop μ-loop
 add-bits c = omega arith
@@ -69,12 +63,12 @@ folded-spec =
     (tie.spec
     Inv-loop
     μ-loop
-    laid-over-requires
+    (λ c κs. search needs)
     loop-holds
     array-read-one-part-on
     add-one-part-on
     shared-slice-read-one-part-on
-    one-part-on-requires
+    (λ c κs. search needs)
     add-bits
     array-write-bits
     add-i

@@ -31,9 +31,6 @@ add-followed c = omega arith
 shared-slice-read-followed : tie.Need-shared-slice-read-followed Inv-loop μ-loop
 shared-slice-read-followed c = omega arith
 
-followed-requires : tie.Need-followed-requires Inv-loop μ-loop
-followed-requires c κs = search needs
-
 add-k : tie.Need-add-k Inv-loop μ-loop
 add-k c = omega arith
 
@@ -68,7 +65,7 @@ folded-at-spec =
     mul-followed
     add-followed
     shared-slice-read-followed
-    followed-requires
+    (λ c κs. search needs)
     add-k
     loop-less
     loop-again

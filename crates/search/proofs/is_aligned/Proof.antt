@@ -15,9 +15,6 @@ use Rattle.search.proofs.is_aligned.Tie as tie
 returns : tie.Need-returns
 returns c = sym (too-short _ (c .if1 .taken))
 
-wrong-word-requires : tie.Need-wrong-word-requires
-wrong-word-requires c κs = search needs
-
 returns-2 : tie.Need-returns-2
 unfolding aligned odd
 returns-2 c =
@@ -26,9 +23,6 @@ returns-2 c =
     let wrong = low-bit (w .result) (λ p. not (spells 1 p)) part (w .ensures) in
     rw (not-true (spells 1 part) (sym wrong ∙ eq-eqb (w .result % 2) 1 (c .if2 .taken)))
 
-wrong-at-requires : tie.Need-wrong-at-requires
-wrong-at-requires c κs = search needs
-
 returns-3 : tie.Need-returns-3
 returns-3 c =
     let part = c .before .before .before .before .before .args .part .now in
@@ -36,4 +30,4 @@ returns-3 c =
     even-is (c .wrong-at .result) ∙ ap not wrong ∙ Bool·not-not (aligned part)
 
 pub is-aligned-spec : {M : Type 1} → statement M
-is-aligned-spec = tie.close (tie.spec returns wrong-word-requires returns-2 wrong-at-requires returns-3)
+is-aligned-spec = tie.close (tie.spec returns (λ c κs. search needs) returns-2 (λ c κs. search needs) returns-3)

@@ -10,24 +10,12 @@ use Rattle.search.proofs.GroupLaws.{none-folded}
 use Rattle.search.proofs.none_of_group.Statement.{statement}
 use Rattle.search.proofs.none_of_group.Tie as tie
 
-folded-requires : tie.Need-folded-requires
-folded-requires c κs = search needs
-
-slice-aggregate-none-of : tie.Need-slice-aggregate-none-of
-slice-aggregate-none-of c = search needs
-
-none-of-requires : tie.Need-none-of-requires
-none-of-requires c κs = search needs
-
 returns : tie.Need-returns
 returns c =
     let f = c .before .before .folded in
     let part = c .before .before .before .before .before .args .part .now in
     none-folded (c .none-of .result) (f .result) part (omega arith) (omega arith) (omega arith) (f .ensures) (c .none-of .ensures)
     ∙ ap (λ (n : ℕ). noneOf n part) (sym (c .before .before .before .if1 .taken))
-
-none-of-requires-2 : tie.Need-none-of-requires-2
-none-of-requires-2 c κs = search needs
 
 returns-2 : tie.Need-returns-2
 unfolding odd
@@ -39,9 +27,9 @@ pub none-of-group-spec : {M : Type 1} → statement M
 none-of-group-spec =
     tie.close
     (tie.spec
-    folded-requires
-    slice-aggregate-none-of
-    none-of-requires
+    (λ c κs. search needs)
+    (λ c. search needs)
+    (λ c κs. search needs)
     returns
-    none-of-requires-2
+    (λ c κs. search needs)
     returns-2)

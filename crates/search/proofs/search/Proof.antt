@@ -5,18 +5,9 @@ use borrow.Author.Needs.{needs}
 use Rattle.search.proofs.search.Statement.{statement}
 use Rattle.search.proofs.search.Tie as tie
 
-octets-from-requires : tie.Need-octets-from-requires
-octets-from-requires c κs = search needs
-
 returns : tie.Need-returns
 unfolding searchOf badLength
 returns c = rw (← c .before .octets-from .ensures, c .if1 .taken)
-
-after-all-groups-requires : tie.Need-after-all-groups-requires
-after-all-groups-requires c κs = search needs
-
-first-from-requires : tie.Need-first-from-requires
-first-from-requires c κs = search needs
 
 returns-2 : tie.Need-returns-2
 unfolding searchOf badLength
@@ -28,4 +19,4 @@ returns-2 c =
 pub search-spec : {M : Type 1} → statement M
 search-spec =
     tie.close
-    (tie.spec octets-from-requires returns after-all-groups-requires first-from-requires returns-2)
+    (tie.spec (λ c κs. search needs) returns (λ c κs. search needs) (λ c κs. search needs) returns-2)

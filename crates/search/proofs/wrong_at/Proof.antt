@@ -13,24 +13,6 @@ use Rattle.search.proofs.WrongLaws.{not-aligned}
 use Rattle.search.proofs.wrong_at.Statement.{statement}
 use Rattle.search.proofs.wrong_at.Tie as tie
 
-add-wrong-word : tie.Need-add-wrong-word
-add-wrong-word c = search needs
-
-wrong-word-requires : tie.Need-wrong-word-requires
-wrong-word-requires c κs = search needs
-
-add-result : tie.Need-add-result
-add-result c = search needs
-
-shared-slice-read-result : tie.Need-shared-slice-read-result
-shared-slice-read-result c = search needs
-
-add-wrong-word-2 : tie.Need-add-wrong-word-2
-add-wrong-word-2 c = search needs
-
-wrong-word-requires-2 : tie.Need-wrong-word-requires-2
-wrong-word-requires-2 c κs = search needs
-
 returns : tie.Need-returns
 returns c = λ k h.
     let s = c .before .before in
@@ -45,10 +27,10 @@ pub wrong-at-spec : {M : Type 1} → statement M
 wrong-at-spec =
     tie.close
     (tie.spec
-    add-wrong-word
-    wrong-word-requires
-    add-result
-    shared-slice-read-result
-    add-wrong-word-2
-    wrong-word-requires-2
+    (λ c. search needs)
+    (λ c κs. search needs)
+    (λ c. search needs)
+    (λ c. search needs)
+    (λ c. search needs)
+    (λ c κs. search needs)
     returns)

@@ -10,31 +10,10 @@ use borrow.Author.Needs.{needs}
 use Rattle.sender.proofs.send.Statement.{statement}
 use Rattle.sender.proofs.send.Tie as tie
 
-decide-requires : tie.Need-decide-requires
-decide-requires c κs = search needs
-
-enum-known-ruling : tie.Need-enum-known-ruling
-enum-known-ruling c = search needs
-
-enum-told : tie.Need-enum-told
-enum-told c = search needs
-
-write-block-requires : tie.Need-write-block-requires
-write-block-requires c κs = search needs
-
-block-crc-requires : tie.Need-block-crc-requires
-block-crc-requires c κs = search needs
-
-with-remainder-requires : tie.Need-with-remainder-requires
-with-remainder-requires c κs = search needs
-
 returns : tie.Need-returns
 returns c =
     let a = c .before .before .before .before .before .before .before .before .before .before .args in
     told-refused (a .state) (a .call) (now (a .voice)) (now (a .lsd)) (now (a .line)) _ _ (c .before .before .before .before .decide .ensures) (c .before .ruling .given .1)
-
-same-length : tie.Need-same-length
-same-length c = search needs
 
 returns-2 : tie.Need-returns-2
 unfolding blockFor
@@ -51,12 +30,12 @@ pub send-spec : {M : Type 1} → statement M
 send-spec =
     tie.close
     (tie.spec
-    decide-requires
-    enum-known-ruling
-    enum-told
-    write-block-requires
-    block-crc-requires
-    with-remainder-requires
+    (λ c κs. search needs)
+    (λ c. search needs)
+    (λ c. search needs)
+    (λ c κs. search needs)
+    (λ c κs. search needs)
+    (λ c κs. search needs)
     returns
-    same-length
+    (λ c. search needs)
     returns-2)

@@ -7,12 +7,9 @@ use borrow.Author.Needs.{needs}
 use Rattle.service.proofs.c_bits.Statement.{statement}
 use Rattle.service.proofs.c_bits.Tie as tie
 
-row-at-requires : tie.Need-row-at-requires
-row-at-requires c κs = search needs
-
 returns : tie.Need-returns
 unfolding cBits
 returns c = ap (λ (x : ℕ). x % 16) (c .row-at .ensures) ∙ last-of 4 4 80 (c .before .before .args .line .now)
 
 pub c-bits-spec : {M : Type 1} → statement M
-c-bits-spec = tie.close (tie.spec row-at-requires returns)
+c-bits-spec = tie.close (tie.spec (λ c κs. search needs) returns)

@@ -12,12 +12,9 @@ bit-back : (b : Bool) → eqb (digit b) 1 ≡ b
 bit-back true = refl
 bit-back false = refl
 
-sc-bit-requires : tie.Need-sc-bit-requires
-sc-bit-requires c κs = search needs
-
 returns : tie.Need-returns
 unfolding oddFirst
 returns c = rw (c .sc-bit .ensures .0) (bit-back _)
 
 pub odd-first-spec : {M : Type 1} → statement M
-odd-first-spec = tie.close (tie.spec sc-bit-requires returns)
+odd-first-spec = tie.close (tie.spec (λ c κs. search needs) returns)

@@ -9,25 +9,10 @@ use borrow.Author.Needs.{needs}
 use Rattle.service.proofs.row_at.Statement.{statement}
 use Rattle.service.proofs.row_at.Tie as tie
 
-add-if1 : tie.Need-add-if1
-add-if1 c = search needs
-
-row-in-turn-requires : tie.Need-row-in-turn-requires
-row-in-turn-requires c κs = search needs
-
-returns : tie.Need-returns
-returns c = search needs
-
-whole-eight-at-requires : tie.Need-whole-eight-at-requires
-whole-eight-at-requires c κs = search needs
-
-cast-result : tie.Need-cast-result
-cast-result c = search needs
-
 returns-2 : tie.Need-returns-2
 returns-2 c =
     let a = c .before .before .before .args in
     row-is (a .line .now) (a .at) _ (c .whole-eight-at .ensures ∙ rw (le-leb (a .at + 8) (length (a .line .now)) (omega arith)))
 
 pub row-at-spec : {M : Type 1} → statement M
-row-at-spec = tie.close (tie.spec add-if1 row-in-turn-requires returns whole-eight-at-requires cast-result returns-2)
+row-at-spec = tie.close (tie.spec (λ c. search needs) (λ c κs. search needs) (λ c. search needs) (λ c κs. search needs) (λ c. search needs) returns-2)

@@ -8,9 +8,6 @@ use borrow.Author.Needs.{needs}
 use Rattle.service.proofs.sc_bit.Statement.{statement}
 use Rattle.service.proofs.sc_bit.Tie as tie
 
-shared-slice-read-result : tie.Need-shared-slice-read-result
-shared-slice-read-result c = search needs
-
 returns : tie.Need-returns
 returns c = (sym (digit-odd _), omega arith)
 
@@ -19,4 +16,4 @@ unfolding odd
 returns-2 c = (rw (List·getD-eq-default (c .before .args .line .now) 0 (c .if1 .left)), omega arith)
 
 pub sc-bit-spec : {M : Type 1} → statement M
-sc-bit-spec = tie.close (tie.spec shared-slice-read-result returns returns-2)
+sc-bit-spec = tie.close (tie.spec (λ c. search needs) returns returns-2)

@@ -3,24 +3,6 @@ use borrow.Author.Needs.{needs}
 use Rattle.slots.proofs.code_reading.Statement.{statement}
 use Rattle.slots.proofs.code_reading.Tie as tie
 
-enum-told : tie.Need-enum-told
-enum-told c = search needs
-
-plain-reading-requires : tie.Need-plain-reading-requires
-plain-reading-requires c κs = search needs
-
-enum-told-2 : tie.Need-enum-told-2
-enum-told-2 c = search needs
-
-item-reading-requires : tie.Need-item-reading-requires
-item-reading-requires c κs = search needs
-
-enum-told-3 : tie.Need-enum-told-3
-enum-told-3 c = search needs
-
-enum-known-due : tie.Need-enum-known-due
-enum-known-due c = search needs
-
 returns : tie.Need-returns
 returns c = rw (c .plain-reading .ensures, c .before .enum-told .given .1)
 
@@ -37,12 +19,12 @@ pub code-reading-spec : {M : Type 1} → statement M
 code-reading-spec =
     tie.close
     (tie.spec
-    enum-told
-    plain-reading-requires
-    enum-told-2
-    item-reading-requires
-    enum-told-3
-    enum-known-due
+    (λ c. search needs)
+    (λ c κs. search needs)
+    (λ c. search needs)
+    (λ c κs. search needs)
+    (λ c. search needs)
+    (λ c. search needs)
     returns
     returns-2
     returns-3

@@ -5,45 +5,9 @@ use borrow.Author.Needs.{needs}
 use Rattle.slots.proofs.due_after.Statement.{statement}
 use Rattle.slots.proofs.due_after.Tie as tie
 
-enum-told : tie.Need-enum-told
-enum-told c = search needs
-
-opening-in-requires : tie.Need-opening-in-requires
-opening-in-requires c κs = search needs
-
-due-by-requires : tie.Need-due-by-requires
-due-by-requires c κs = search needs
-
-enum-told-2 : tie.Need-enum-told-2
-enum-told-2 c = search needs
-
-enum-told-3 : tie.Need-enum-told-3
-enum-told-3 c = search needs
-
-length-in-requires : tie.Need-length-in-requires
-length-in-requires c κs = search needs
-
-words-due-requires : tie.Need-words-due-requires
-words-due-requires c κs = search needs
-
-enum-known-due : tie.Need-enum-known-due
-enum-known-due c = search needs
-
-opening-in-requires-2 : tie.Need-opening-in-requires-2
-opening-in-requires-2 c κs = search needs
-
-due-by-requires-2 : tie.Need-due-by-requires-2
-due-by-requires-2 c κs = search needs
-
 returns : tie.Need-returns
 unfolding dueAfter
 returns c = rw (c .due-by2 .ensures, c .before .opening-in2 .ensures, c .before .before .before .before .due .given .1, eq-eqb _ _ (c .before .before .if1 .taken))
-
-sub-words-due : tie.Need-sub-words-due
-sub-words-due c = search needs
-
-words-due-requires-2 : tie.Need-words-due-requires-2
-words-due-requires-2 c κs = search needs
 
 returns-2 : tie.Need-returns-2
 unfolding dueAfter
@@ -65,19 +29,19 @@ pub due-after-spec : {M : Type 1} → statement M
 due-after-spec =
     tie.close
     (tie.spec
-    enum-told
-    opening-in-requires
-    due-by-requires
-    enum-told-2
-    enum-told-3
-    length-in-requires
-    words-due-requires
-    enum-known-due
-    opening-in-requires-2
-    due-by-requires-2
+    (λ c. search needs)
+    (λ c κs. search needs)
+    (λ c κs. search needs)
+    (λ c. search needs)
+    (λ c. search needs)
+    (λ c κs. search needs)
+    (λ c κs. search needs)
+    (λ c. search needs)
+    (λ c κs. search needs)
+    (λ c κs. search needs)
     returns
-    sub-words-due
-    words-due-requires-2
+    (λ c. search needs)
+    (λ c κs. search needs)
     returns-2
     returns-3
     returns-4

@@ -4,33 +4,6 @@ use borrow.Author.Needs.{needs}
 use Rattle.slots.proofs.obey.Statement.{statement}
 use Rattle.slots.proofs.obey.Tie as tie
 
-enum-known-reading : tie.Need-enum-known-reading
-enum-known-reading c = search needs
-
-command-of-requires : tie.Need-command-of-requires
-command-of-requires c κs = search needs
-
-follow-requires : tie.Need-follow-requires
-follow-requires c κs = search needs
-
-enum-known-reading-2 : tie.Need-enum-known-reading-2
-enum-known-reading-2 c = search needs
-
-enum-known-reading-3 : tie.Need-enum-known-reading-3
-enum-known-reading-3 c = search needs
-
-enum-known-reading-4 : tie.Need-enum-known-reading-4
-enum-known-reading-4 c = search needs
-
-enum-known-reading-5 : tie.Need-enum-known-reading-5
-enum-known-reading-5 c = search needs
-
-enum-told : tie.Need-enum-told
-enum-told c = search needs
-
-enum-told-2 : tie.Need-enum-told-2
-enum-told-2 c = search needs
-
 returns : tie.Need-returns
 unfolding obeyed
 returns c = rw (c .follow .ensures, c .before .command-of .ensures, c .before .before .before .reading .given .1)
@@ -63,15 +36,15 @@ pub obey-spec : {M : Type 1} → statement M
 obey-spec =
     tie.close
     (tie.spec
-    enum-known-reading
-    command-of-requires
-    follow-requires
-    enum-known-reading-2
-    enum-known-reading-3
-    enum-known-reading-4
-    enum-known-reading-5
-    enum-told
-    enum-told-2
+    (λ c. search needs)
+    (λ c κs. search needs)
+    (λ c κs. search needs)
+    (λ c. search needs)
+    (λ c. search needs)
+    (λ c. search needs)
+    (λ c. search needs)
+    (λ c. search needs)
+    (λ c. search needs)
     returns
     returns-2
     returns-3

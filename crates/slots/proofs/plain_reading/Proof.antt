@@ -4,9 +4,6 @@ use borrow.Author.Needs.{needs}
 use Rattle.slots.proofs.plain_reading.Statement.{statement}
 use Rattle.slots.proofs.plain_reading.Tie as tie
 
-reader-carries-requires : tie.Need-reader-carries-requires
-reader-carries-requires c κs = search needs
-
 returns : tie.Need-returns
 returns c = rw (sym (c .before .reader-carries .ensures), c .if1 .taken)
 
@@ -14,4 +11,4 @@ returns-2 : tie.Need-returns-2
 returns-2 c = rw (sym (c .before .reader-carries .ensures), c .if1 .left)
 
 pub plain-reading-spec : {M : Type 1} → statement M
-plain-reading-spec = tie.close (tie.spec reader-carries-requires returns returns-2)
+plain-reading-spec = tie.close (tie.spec (λ c κs. search needs) returns returns-2)

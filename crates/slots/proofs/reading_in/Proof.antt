@@ -4,18 +4,6 @@ use borrow.Author.Needs.{needs}
 use Rattle.slots.proofs.reading_in.Statement.{statement}
 use Rattle.slots.proofs.reading_in.Tie as tie
 
-enum-known-word : tie.Need-enum-known-word
-enum-known-word c = search needs
-
-stand-requires : tie.Need-stand-requires
-stand-requires c κs = search needs
-
-code-reading-requires : tie.Need-code-reading-requires
-code-reading-requires c κs = search needs
-
-enum-told : tie.Need-enum-told
-enum-told c = search needs
-
 returns : tie.Need-returns
 unfolding readingIn
 returns c = rw (c .code-reading .ensures, c .before .stand .ensures, c .before .before .before .word .given .1)
@@ -27,4 +15,4 @@ returns-2 c = rw (c .enum-told .given .1)
 pub reading-in-spec : {M : Type 1} → statement M
 reading-in-spec =
     tie.close
-    (tie.spec enum-known-word stand-requires code-reading-requires enum-told returns returns-2)
+    (tie.spec (λ c. search needs) (λ c κs. search needs) (λ c κs. search needs) (λ c. search needs) returns returns-2)

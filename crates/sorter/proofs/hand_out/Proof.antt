@@ -33,16 +33,10 @@ by-owner m p o n k line buf e f h = h ∙ rw (f, e, ← (rows-are m 80))
 apart-by : (m : Mode) (p : Layout) → p ≡ layoutOf m → Apart p
 apart-by m p e = subst Apart (sym e) (apart-of m)
 
-lengths-fit-requires : tie.Need-lengths-fit-requires
-lengths-fit-requires c κs = search needs
-
 returns : tie.Need-returns
 returns c =
     let a = c .before .before .before .before .before .args in
     left-alone (a .mode) (now (a .line)) (now (a .voice)) (now (a .lsd)) (sym (c .before .lengths-fit .ensures) ∙ not-true _ (c .if1 .taken))
-
-layout-of-requires : tie.Need-layout-of-requires
-layout-of-requires c κs = search needs
 
 sort-voice-requires : tie.Need-sort-voice-requires
 sort-voice-requires c κs =
@@ -60,12 +54,6 @@ sort-lsd-requires c κs =
     let apart = apart-by (a .mode) (l .result) (l .ensures) in
     (apart, (fit .0, omega (arith, fit .2)))
 
-same-length : tie.Need-same-length
-same-length c = search needs
-
-same-length-2 : tie.Need-same-length-2
-same-length-2 c = search needs
-
 returns-2 : tie.Need-returns-2
 returns-2 c =
     let a = c .before .before .before .before .before .before .before .before .before .before .before .before .before .before .args in
@@ -81,11 +69,11 @@ pub hand-out-spec : {M : Type 1} → statement M
 hand-out-spec =
     tie.close
     (tie.spec
-    lengths-fit-requires
+    (λ c κs. search needs)
     returns
-    layout-of-requires
+    (λ c κs. search needs)
     sort-voice-requires
     sort-lsd-requires
-    same-length
-    same-length-2
+    (λ c. search needs)
+    (λ c. search needs)
     returns-2)

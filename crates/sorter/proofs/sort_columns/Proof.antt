@@ -8,15 +8,6 @@ use Rattle.packing.proofs.FillLaws.{cleared, filled-with}
 use Rattle.sorter.proofs.sort_columns.Statement.{statement}
 use Rattle.sorter.proofs.sort_columns.Tie as tie
 
-clear-requires : tie.Need-clear-requires
-clear-requires c κs = search needs
-
-sort-run-requires : tie.Need-sort-run-requires
-sort-run-requires c κs = search needs
-
-same-length : tie.Need-same-length
-same-length c = search needs
-
 returns : tie.Need-returns
 returns c =
     let a = c .before .before .before .before .before .before .before .before .before .before .args in
@@ -25,4 +16,4 @@ returns c =
     filled-with _ _ _ (length (now (a .out))) _ (r .ensures .1 [] (cleared (length (now (a .out))) _ (blank .ensures))) (r .kept .1 .1 .1 .1 .0 ∙ blank .kept .0) refl
 
 pub sort-columns-spec : {M : Type 1} → statement M
-sort-columns-spec = tie.close (tie.spec clear-requires sort-run-requires same-length returns)
+sort-columns-spec = tie.close (tie.spec (λ c κs. search needs) (λ c κs. search needs) (λ c. search needs) returns)

@@ -10,27 +10,6 @@ use Rattle.sorter.proofs.SortLaws.{lsd-without, lsd-with, whole-eights}
 use Rattle.sorter.proofs.sort_frame.Statement.{statement}
 use Rattle.sorter.proofs.sort_frame.Tie as tie
 
-cast-c : tie.Need-cast-c
-cast-c c = search needs
-
-cast-first : tie.Need-cast-first
-cast-first c = search needs
-
-cast-last : tie.Need-cast-last
-cast-last c = search needs
-
-sub-bit : tie.Need-sub-bit
-sub-bit c = search needs
-
-add-sort-run : tie.Need-add-sort-run
-add-sort-run c = search needs
-
-sub-sort-run : tie.Need-sub-sort-run
-sub-sort-run c = search needs
-
-add-sort-run-2 : tie.Need-add-sort-run-2
-add-sort-run-2 c = search needs
-
 sort-run-requires : tie.Need-sort-run-requires
 sort-run-requires c κs =
     let s = c .before .before .before .before .before .before in
@@ -43,15 +22,6 @@ sort-run-requires c κs =
     let runs = h .runs in
     let until = h .until in
     (omega arith, omega arith, omega arith, omega arith, omega arith, omega arith)
-
-sub-sort-run-2 : tie.Need-sub-sort-run-2
-sub-sort-run-2 c = search needs
-
-add-sort-run-3 : tie.Need-add-sort-run-3
-add-sort-run-3 c = search needs
-
-add-sort-run-4 : tie.Need-add-sort-run-4
-add-sort-run-4 c = search needs
 
 sort-run-requires-2 : tie.Need-sort-run-requires-2
 sort-run-requires-2 c κs =
@@ -67,12 +37,6 @@ sort-run-requires-2 c κs =
     let before = c .before .before .before .sort-run .ensures .0 in
     (omega arith, omega arith, omega arith, omega arith, omega arith, omega arith)
 
-add-sort-run-5 : tie.Need-add-sort-run-5
-add-sort-run-5 c = search needs
-
-add-sort-run-6 : tie.Need-add-sort-run-6
-add-sort-run-6 c = search needs
-
 sort-run-requires-3 : tie.Need-sort-run-requires-3
 sort-run-requires-3 c κs =
     let s = c .before .before .before .before .before .before .before .before .before .before .before .before .before .before in
@@ -86,9 +50,6 @@ sort-run-requires-3 c κs =
     let until = h .until in
     let inside = c .before .before .before .sort-run2 .ensures .0 in
     (omega arith, omega arith, omega arith, omega arith, omega arith, omega arith)
-
-same-length : tie.Need-same-length
-same-length c = search needs
 
 returns : tie.Need-returns
 returns c =
@@ -121,20 +82,20 @@ pub sort-frame-spec : {M : Type 1} → statement M
 sort-frame-spec =
     tie.close
     (tie.spec
-    cast-c
-    cast-first
-    cast-last
-    sub-bit
-    add-sort-run
-    sub-sort-run
-    add-sort-run-2
+    (λ c. search needs)
+    (λ c. search needs)
+    (λ c. search needs)
+    (λ c. search needs)
+    (λ c. search needs)
+    (λ c. search needs)
+    (λ c. search needs)
     sort-run-requires
-    sub-sort-run-2
-    add-sort-run-3
-    add-sort-run-4
+    (λ c. search needs)
+    (λ c. search needs)
+    (λ c. search needs)
     sort-run-requires-2
-    add-sort-run-5
-    add-sort-run-6
+    (λ c. search needs)
+    (λ c. search needs)
     sort-run-requires-3
-    same-length
+    (λ c. search needs)
     returns)

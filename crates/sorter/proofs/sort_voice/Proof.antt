@@ -8,15 +8,6 @@ use Rattle.sorter.proofs.SortLaws.{voice-all}
 use Rattle.sorter.proofs.sort_voice.Statement.{statement}
 use Rattle.sorter.proofs.sort_voice.Tie as tie
 
-cast-w : tie.Need-cast-w
-cast-w c = search needs
-
-sort-columns-requires : tie.Need-sort-columns-requires
-sort-columns-requires c κs = search needs
-
-same-length : tie.Need-same-length
-same-length c = search needs
-
 returns : tie.Need-returns
 returns c =
     let s = c .before .before .before .before .before .before .before in
@@ -24,4 +15,4 @@ returns c =
     c .before .before .sort-columns .ensures ∙ ap (octets (length (now (a .out)))) (voice-all (a .p) (now (a .line)) (s .pre .0) (s .pre .1))
 
 pub sort-voice-spec : {M : Type 1} → statement M
-sort-voice-spec = tie.close (tie.spec cast-w sort-columns-requires same-length returns)
+sort-voice-spec = tie.close (tie.spec (λ c. search needs) (λ c κs. search needs) (λ c. search needs) returns)

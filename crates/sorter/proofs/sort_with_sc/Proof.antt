@@ -22,12 +22,6 @@ use Rattle.sorter.proofs.sort_with_sc.Tie as tie
 begun : (p : Layout) (line buf : List ℕ) (n : ℕ) → buf ≡ replicate n 0 → Filled (sofar p Lsd line 0) 0 buf
 begun p line buf n e = subst (λ (bs : List Bool). Filled bs 0 buf) (none-yet p Lsd line) (cleared n buf e)
 
-clear-requires : tie.Need-clear-requires
-clear-requires c κs = search needs
-
-in-eights-requires : tie.Need-in-eights-requires
-in-eights-requires c κs = search needs
-
 sort-frame-requires : tie.Need-sort-frame-requires
 sort-frame-requires c κs =
     let s = c .before .before .before .before .before .before .before .before .before in
@@ -37,9 +31,6 @@ sort-frame-requires-2 : tie.Need-sort-frame-requires-2
 sort-frame-requires-2 c κs =
     let s = c .before .before .before .before .before .before .before .before .before .before .before .before .before in
     (s .pre .0, (sym (c .before .before .before .before .before .before .in-eights .ensures) ∙ c .before .before .before .before .before .if1 .taken, s .pre .1 .0, refl, omega arith, c .before .before .before .sort-frame .ensures .0))
-
-same-length : tie.Need-same-length
-same-length c = search needs
 
 returns : tie.Need-returns
 returns c =
@@ -52,30 +43,6 @@ returns c =
     filled-with (sofar (a .p) Lsd line 160) _ _ (length (now (a .out))) _ (odd .ensures .1 (even .ensures .1 (begun (a .p) line _ (length (now (a .out))) (blank .ensures))))
     (odd .kept .1 .1 .1 .0 ∙ even .kept .1 .1 .1 .0 ∙ blank .kept .0)
     (ap (λ (ps : List Owner). sort Lsd ps (bitsOf line)) (block-all (a .p)))
-
-cast-first : tie.Need-cast-first
-cast-first c = search needs
-
-cast-last : tie.Need-cast-last
-cast-last c = search needs
-
-sub-sort-bits : tie.Need-sub-sort-bits
-sub-sort-bits c = search needs
-
-sort-bits-requires : tie.Need-sort-bits-requires
-sort-bits-requires c κs = search needs
-
-add-sort-bits : tie.Need-add-sort-bits
-add-sort-bits c = search needs
-
-add-sort-bits-2 : tie.Need-add-sort-bits-2
-add-sort-bits-2 c = search needs
-
-sort-bits-requires-2 : tie.Need-sort-bits-requires-2
-sort-bits-requires-2 c κs = search needs
-
-same-length-2 : tie.Need-same-length-2
-same-length-2 c = search needs
 
 returns-2 : tie.Need-returns-2
 returns-2 c =
@@ -101,18 +68,18 @@ pub sort-with-sc-spec : {M : Type 1} → statement M
 sort-with-sc-spec =
     tie.close
     (tie.spec
-    clear-requires
-    in-eights-requires
+    (λ c κs. search needs)
+    (λ c κs. search needs)
     sort-frame-requires
     sort-frame-requires-2
-    same-length
+    (λ c. search needs)
     returns
-    cast-first
-    cast-last
-    sub-sort-bits
-    sort-bits-requires
-    add-sort-bits
-    add-sort-bits-2
-    sort-bits-requires-2
-    same-length-2
+    (λ c. search needs)
+    (λ c. search needs)
+    (λ c. search needs)
+    (λ c κs. search needs)
+    (λ c. search needs)
+    (λ c. search needs)
+    (λ c κs. search needs)
+    (λ c. search needs)
     returns-2)

@@ -7,29 +7,11 @@ use Rattle.text.proofs.OverLaws.{written-none}
 use Rattle.text.proofs.put_digit_at.Statement.{statement}
 use Rattle.text.proofs.put_digit_at.Tie as tie
 
-div-digit : tie.Need-div-digit
-div-digit c = search needs
-
-cast-digit : tie.Need-cast-digit
-cast-digit c = search needs
-
-digit-requires : tie.Need-digit-requires
-digit-requires c κs = search needs
-
-put-requires : tie.Need-put-requires
-put-requires c κs = search needs
-
-same-length : tie.Need-same-length
-same-length c = search needs
-
 returns : tie.Need-returns
 unfolding digitAt
 returns c =
     let a = c .before .before .before .before .before .before .before .args in
     rw (le-leb (a .power) (a .n) (omega arith), ← (c .before .before .before .digit .ensures)) (c .before .before .put .ensures)
-
-place-in-requires : tie.Need-place-in-requires
-place-in-requires c κs = search needs
 
 returns-2 : tie.Need-returns-2
 unfolding digitAt
@@ -41,11 +23,11 @@ pub put-digit-at-spec : {M : Type 1} → statement M
 put-digit-at-spec =
     tie.close
     (tie.spec
-    div-digit
-    cast-digit
-    digit-requires
-    put-requires
-    same-length
+    (λ c. search needs)
+    (λ c. search needs)
+    (λ c κs. search needs)
+    (λ c κs. search needs)
+    (λ c. search needs)
     returns
-    place-in-requires
+    (λ c κs. search needs)
     returns-2)

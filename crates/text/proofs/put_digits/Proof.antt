@@ -22,9 +22,6 @@ Inv-loop text₀ at power first n place₀ here₀ k₀ text place here k =
 abbrev μ-loop : tie.MeasureT-loop
 μ-loop text₀ at power first n place₀ here₀ k₀ text place here k = k
 
-place-in-requires : tie.Need-place-in-requires Inv-loop μ-loop
-place-in-requires c κs = search needs
-
 loop-holds : tie.Need-loop-holds Inv-loop μ-loop
 loop-holds c = (refl, c .before .before .pre, λ r b w. written-then (written-none _ _ _ (c .place-in .ensures)) w)
 
@@ -32,12 +29,6 @@ put-digit-at-requires : tie.Need-put-digit-at-requires Inv-loop μ-loop
 put-digit-at-requires c κs =
     let l = c .before .before .loop in
     rw (l .inv .1) (one-le-pow (l .k) 10 (lit< tt))
-
-sub-k : tie.Need-sub-k Inv-loop μ-loop
-sub-k c = search needs
-
-loop-less : tie.Need-loop-less Inv-loop μ-loop
-loop-less c = search needs
 
 loop-again : tie.Need-loop-again Inv-loop μ-loop
 loop-again c =
@@ -48,15 +39,6 @@ loop-again c =
       ap (λ (p : ℕ). p / 10) (l .inv .1) ∙ power-below (l .k) (omega arith),
       λ r b w. l .inv .2 r b (rw (digits-more (l .k) n (omega arith), ← (l .inv .1)) (written-then (put .ensures) w)),
     )
-
-cast-digit : tie.Need-cast-digit Inv-loop μ-loop
-cast-digit c = search needs
-
-digit-requires : tie.Need-digit-requires Inv-loop μ-loop
-digit-requires c κs = search needs
-
-put-requires : tie.Need-put-requires Inv-loop μ-loop
-put-requires c κs = search needs
 
 same-length : tie.Need-same-length Inv-loop μ-loop
 same-length c = c .before .before .put .kept .0 ∙ c .before .before .before .before .before .before .loop .inv .0
@@ -74,14 +56,14 @@ put-digits-spec =
     (tie.spec
     Inv-loop
     μ-loop
-    place-in-requires
+    (λ c κs. search needs)
     loop-holds
     put-digit-at-requires
-    sub-k
-    loop-less
+    (λ c. search needs)
+    (λ c. search needs)
     loop-again
-    cast-digit
-    digit-requires
-    put-requires
+    (λ c. search needs)
+    (λ c κs. search needs)
+    (λ c κs. search needs)
     same-length
     returns)

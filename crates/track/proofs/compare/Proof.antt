@@ -4,9 +4,6 @@ use borrow.Author.Needs.{needs}
 use Rattle.track.proofs.compare.Statement.{statement}
 use Rattle.track.proofs.compare.Tie as tie
 
-count-requires : tie.Need-count-requires
-count-requires c κs = search needs
-
 returns : tie.Need-returns
 returns c = rw (← c .before .count .ensures, eq-eqb _ _ (c .if1 .taken))
 
@@ -14,4 +11,4 @@ returns-2 : tie.Need-returns-2
 returns-2 c = rw (← c .before .count .ensures, ne-eqb _ _ (c .if1 .left))
 
 pub compare-spec : {M : Type 1} → statement M
-compare-spec = tie.close (tie.spec count-requires returns returns-2)
+compare-spec = tie.close (tie.spec (λ c κs. search needs) returns returns-2)

@@ -4,20 +4,8 @@ use borrow.Author.Needs.{needs}
 use Rattle.track.proofs.due_read.Statement.{statement}
 use Rattle.track.proofs.due_read.Tie as tie
 
-due-of-requires : tie.Need-due-of-requires
-due-of-requires c κs = search needs
-
-stand-requires : tie.Need-stand-requires
-stand-requires c κs = search needs
-
 returns : tie.Need-returns
 returns c = rw (c .stand .ensures, c .before .due-of .ensures, eq-eqb _ _ (c .before .before .if1 .taken))
-
-due-of-requires-2 : tie.Need-due-of-requires-2
-due-of-requires-2 c κs = search needs
-
-due-after-requires : tie.Need-due-after-requires
-due-after-requires c κs = search needs
 
 returns-2 : tie.Need-returns-2
 returns-2 c = rw (c .due-after .ensures, c .before .due-of2 .ensures, ne-eqb _ _ (c .before .before .if1 .left))
@@ -26,9 +14,9 @@ pub due-read-spec : {M : Type 1} → statement M
 due-read-spec =
     tie.close
     (tie.spec
-    due-of-requires
-    stand-requires
+    (λ c κs. search needs)
+    (λ c κs. search needs)
     returns
-    due-of-requires-2
-    due-after-requires
+    (λ c κs. search needs)
+    (λ c κs. search needs)
     returns-2)

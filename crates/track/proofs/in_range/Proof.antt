@@ -4,12 +4,9 @@ use borrow.Author.Needs.{needs}
 use Rattle.track.proofs.in_range.Statement.{statement}
 use Rattle.track.proofs.in_range.Tie as tie
 
-modes-in-range-requires : tie.Need-modes-in-range-requires
-modes-in-range-requires c κs = search needs
-
 returns : tie.Need-returns
 unfolding stateInRange
 returns c = rw (c .modes-in-range .ensures)
 
 pub in-range-spec : {M : Type 1} → statement M
-in-range-spec = tie.close (tie.spec modes-in-range-requires returns)
+in-range-spec = tie.close (tie.spec (λ c κs. search needs) returns)

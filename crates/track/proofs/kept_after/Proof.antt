@@ -7,11 +7,8 @@ use Rattle.track.proofs.kept_after.Tie as tie
 returns : tie.Need-returns
 returns c = rw (eq-eqb _ _ (c .if1 .taken))
 
-mode-before-requires : tie.Need-mode-before-requires
-mode-before-requires c κs = search needs
-
 returns-2 : tie.Need-returns-2
 returns-2 c = rw (c .mode-before .ensures, ne-eqb _ _ (c .before .if1 .left))
 
 pub kept-after-spec : {M : Type 1} → statement M
-kept-after-spec = tie.close (tie.spec returns mode-before-requires returns-2)
+kept-after-spec = tie.close (tie.spec returns (λ c κs. search needs) returns-2)

@@ -15,23 +15,14 @@ twice false = refl
 one-mode : (m k : Mode) → sameMode k m ≡ true → inRange m ≡ (inRange m && inRange k)
 one-mode m k t = twice (inRange m) ∙ ap (λ (n : Mode). inRange m && inRange n) (sym (same-mode k m t))
 
-in-range-requires : tie.Need-in-range-requires
-in-range-requires c κs = search needs
-
-same-requires : tie.Need-same-requires
-same-requires c κs = search needs
-
 returns : tie.Need-returns
 returns c =
     let a = c .before .before .before .args in
     rw (c .before .before .in-range .ensures) (one-mode (a .mode) (a .kept) (sym (c .before .same .ensures) ∙ c .if1 .taken))
-
-in-range-requires-2 : tie.Need-in-range-requires-2
-in-range-requires-2 c κs = search needs
 
 returns-2 : tie.Need-returns-2
 returns-2 c = rw (c .in-range2 .ensures, c .before .before .before .in-range .ensures)
 
 pub modes-in-range-spec : {M : Type 1} → statement M
 modes-in-range-spec =
-    tie.close (tie.spec in-range-requires same-requires returns in-range-requires-2 returns-2)
+    tie.close (tie.spec (λ c κs. search needs) (λ c κs. search needs) returns (λ c κs. search needs) returns-2)

@@ -13,15 +13,9 @@ returns-2 : tie.Need-returns-2
 unfolding multiframeAfter
 returns-2 c = rw (eq-eqb _ _ (c .before .if1 .taken), c .if2 .left)
 
-compare-requires : tie.Need-compare-requires
-compare-requires c κs = search needs
-
 returns-3 : tie.Need-returns-3
 unfolding multiframeAfter
 returns-3 c = rw (c .compare .ensures, ne-eqb _ _ (c .before .before .before .if1 .left), eq-eqb _ _ (c .before .if3 .taken))
-
-next-block-requires : tie.Need-next-block-requires
-next-block-requires c κs = search needs
 
 returns-4 : tie.Need-returns-4
 unfolding multiframeAfter
@@ -29,4 +23,4 @@ returns-4 c = rw (c .next-block .ensures, ne-eqb _ _ (c .before .before .before 
 
 pub multiframe-after-spec : {M : Type 1} → statement M
 multiframe-after-spec =
-    tie.close (tie.spec returns returns-2 compare-requires returns-3 next-block-requires returns-4)
+    tie.close (tie.spec returns returns-2 (λ c κs. search needs) returns-3 (λ c κs. search needs) returns-4)

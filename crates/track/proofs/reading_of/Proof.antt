@@ -7,14 +7,8 @@ use Rattle.track.proofs.reading_of.Tie as tie
 returns : tie.Need-returns
 returns c = rw (eq-eqb _ _ (c .if1 .taken))
 
-due-of-requires : tie.Need-due-of-requires
-due-of-requires c κs = search needs
-
-reading-in-requires : tie.Need-reading-in-requires
-reading-in-requires c κs = search needs
-
 returns-2 : tie.Need-returns-2
 returns-2 c = rw (c .reading-in .ensures, c .before .due-of .ensures, ne-eqb _ _ (c .before .before .if1 .left))
 
 pub reading-of-spec : {M : Type 1} → statement M
-reading-of-spec = tie.close (tie.spec returns due-of-requires reading-in-requires returns-2)
+reading-of-spec = tie.close (tie.spec returns (λ c κs. search needs) (λ c κs. search needs) returns-2)

@@ -4,12 +4,6 @@ use borrow.Author.Needs.{needs}
 use Rattle.track.proofs.six_after.Statement.{statement}
 use Rattle.track.proofs.six_after.Tie as tie
 
-mul-older : tie.Need-mul-older
-mul-older c = search needs
-
-add-result : tie.Need-add-result
-add-result c = search needs
-
 returns : tie.Need-returns
 returns c = rw (c .if1 .taken)
 
@@ -17,4 +11,4 @@ returns-2 : tie.Need-returns-2
 returns-2 c = rw (c .if1 .left) (omega arith)
 
 pub six-after-spec : {M : Type 1} → statement M
-six-after-spec = tie.close (tie.spec mul-older add-result returns returns-2)
+six-after-spec = tie.close (tie.spec (λ c. search needs) (λ c. search needs) returns returns-2)

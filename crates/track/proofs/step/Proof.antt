@@ -5,21 +5,9 @@ use borrow.Author.Needs.{needs}
 use Rattle.track.proofs.step.Statement.{statement}
 use Rattle.track.proofs.step.Tie as tie
 
-wrong-bits-requires : tie.Need-wrong-bits-requires
-wrong-bits-requires c κs = search needs
-
-count-requires : tie.Need-count-requires
-count-requires c κs = search needs
-
-lose-requires : tie.Need-lose-requires
-lose-requires c κs = search needs
-
 returns : tie.Need-returns
 unfolding stepOf
 returns c = rw (c .lose .ensures, ← c .before .before .before .wrong-bits .ensures, ← c .before .before .count .ensures, eq-eqb _ _ (c .before .if1 .taken))
-
-go-on-requires : tie.Need-go-on-requires
-go-on-requires c κs = search needs
 
 returns-2 : tie.Need-returns-2
 unfolding stepOf
@@ -27,4 +15,4 @@ returns-2 c = rw (c .go-on .ensures, ← c .before .before .before .wrong-bits .
 
 pub step-spec : {M : Type 1} → statement M
 step-spec =
-    tie.close (tie.spec wrong-bits-requires count-requires lose-requires returns go-on-requires returns-2)
+    tie.close (tie.spec (λ c κs. search needs) (λ c κs. search needs) (λ c κs. search needs) returns (λ c κs. search needs) returns-2)

@@ -4,12 +4,6 @@ use borrow.Author.Needs.{needs}
 use Rattle.track.proofs.word_in.Statement.{statement}
 use Rattle.track.proofs.word_in.Tie as tie
 
-bas-word-requires : tie.Need-bas-word-requires
-bas-word-requires c κs = search needs
-
-read-word-requires : tie.Need-read-word-requires
-read-word-requires c κs = search needs
-
 returns : tie.Need-returns
 returns c = rw (c .read-word .ensures, c .before .bas-word .ensures, le-leb _ _ (c .before .before .if1 .taken))
 
@@ -17,4 +11,4 @@ returns-2 : tie.Need-returns-2
 returns-2 c = rw (lt-leb _ _ (c .if1 .left))
 
 pub word-in-spec : {M : Type 1} → statement M
-word-in-spec = tie.close (tie.spec bas-word-requires read-word-requires returns returns-2)
+word-in-spec = tie.close (tie.spec (λ c κs. search needs) (λ c κs. search needs) returns returns-2)

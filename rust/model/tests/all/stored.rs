@@ -35,22 +35,22 @@ fn the_session_is_the_models() {
 
 #[test]
 fn the_collection_is_the_models() {
-    let name = "crates/reading/stdin";
+    let name = "crates/replay/stdin";
     assert_same(name, &stored(name), &printed(&["recordings"], &[]));
 }
 
 #[test]
 fn the_reading_is_the_models() {
-    let name = "crates/reading/stdout";
-    assert_same(name, &stored(name), &printed(&["reading"], &stored("crates/reading/stdin")));
+    let name = "crates/replay/stdout";
+    assert_same(name, &stored(name), &printed(&["reading"], &stored("crates/replay/stdin")));
 }
 
 #[test]
 fn the_recording_that_is_sent_and_heard_is_the_models() {
-    let words = text(&stored("crates/send/args"));
+    let words = text(&stored("crates/speak/args"));
     let calls: Vec<&str> = words.lines().collect();
-    let expected = printed(&["send", "--offer", &calls.join(",")], &stored("crates/send/stdin"));
-    for name in ["crates/send/stdout", "crates/hear/stdin"] {
+    let expected = printed(&["send", "--offer", &calls.join(",")], &stored("crates/speak/stdin"));
+    for name in ["crates/speak/stdout", "crates/hear/stdin"] {
         assert_same(name, &stored(name), &expected);
     }
 }
@@ -122,7 +122,7 @@ struct Shown {
 
 /// The recordings of a printed reading, block by block.
 fn shown() -> Vec<Vec<Shown>> {
-    let printed = text(&stored("crates/reading/stdout"));
+    let printed = text(&stored("crates/replay/stdout"));
     let mut lines = printed.lines().peekable();
     let mut recordings = Vec::new();
     while let Some(head) = lines.next_if(|line| line.starts_with("recording ")) {

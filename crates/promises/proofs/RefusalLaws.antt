@@ -1,0 +1,146 @@
+-- Demand 1, call by call.
+use mathlib.Core.Path.{_≡_, refl, ap, _∙_}
+use mathlib.Core.Bool.{Bool, true, false, not, cond, _||_}
+use mathlib.Core.List.{List, _∷_}
+use Prim.Native.Nat.{ℕ, zero, suc, _+_, _-_}
+use native.Mathlib.Omega.{arith}
+use lib.Dec.{ltb}
+use lib.ListN.{length, getD, drop, length-drop, drop-of-length-le}
+use lib.Seq.{drop-cons}
+use Rattle.refusals.specs.Rows.{rulingNumber}
+use Rattle.refusals.specs.declared.Refusal.the-variants.{BadRecording}
+use Rattle.refusals.specs.declared.Ruling.{Ruling}
+use Rattle.refusals.specs.declared.Ruling.the-variants.{Refuse, Accept}
+use Rattle.refusals.proofs.RowLaws.{number-is}
+use Rattle.control.specs.State as sender
+use Rattle.control.specs.Refusals as sender-list
+use Rattle.sender.specs.Step as sending
+use Rattle.sender.proofs.OutcomeLaws.{refused-is}
+use Rattle.presets.specs.Presets.{isPreset, presetRead, presetWritten, presetNumber, writtenNumber}
+use Rattle.control.specs.declared.Sender.{Sender}
+use Rattle.control.specs.declared.Call.{Call}
+use Rattle.track.specs.State as reader
+use Rattle.reader.specs.Refusals as reader-list
+use Rattle.reader.specs.Step as reading
+use Rattle.track.specs.declared.Reader.{Reader}
+use Rattle.search.specs.Finding as finding
+use Rattle.search.specs.declared.Found.{Found}
+use Rattle.recording.specs.Refusals as walk-list
+use Rattle.recording.specs.Walk as walk
+use Rattle.recording.specs.declared.Answer.the-variants.{End}
+use Rattle.promises.specs.Demand1.{first, sendingRows, Sending, Reading, somewhere, Searching, Stepping, ReadingPreset, WritingPreset}
+use Rattle.promises.proofs.RuleLaws.{rule-due, rule-plain}
+
+sending-number : (s : Sender) (c : Call) (voice lsd line : List ℕ)
+    → rulingNumber (sending.ruled s c voice lsd line) ≡ first (sendingRows s c voice lsd line)
+unfolding sender-list.rulingOf
+sending-number s c voice lsd line =
+    number-is (sender-list.rows s c (length line) (length voice) (length lsd)) ∙ rw (rule-plain s c, rule-due s (c .mute))
+
+pub sending-refuses : Sending
+sending-refuses s c voice lsd line r l t =
+    record {
+      ordered = refl;
+      exact = t .number ∙ sending-number s c voice lsd line;
+      kept = go (sending.ruled s c voice lsd line) refl;
+    }
+  where
+    go : (q : Ruling) → sending.ruled s c voice lsd line ≡ q → (sender-list.numberIn (r .answer) ≡ 0 → ⊥) → (r .state ≡ s) × (l ≡ line)
+    go (Refuse why) e h =
+        let still = refused-is s c voice lsd line why e in
+        (rw (t .outcome, still .0), t .octets ∙ still .1)
+    go Accept e h = absurd (h (t .number ∙ ap rulingNumber e))
+
+pub reading-refuses : Reading
+unfolding reading.outcomeOf reading.voiceOf reading.lsdOf reader-list.rulingOf
+reading-refuses s line voice lsd r v d t =
+    record {
+      ordered = refl;
+      exact = t .number ∙ number-is (reader-list.rows s (length line) (length voice) (length lsd));
+      kept = go (reading.ruled s line voice lsd) refl;
+    }
+  where
+    go : (q : Ruling) → reading.ruled s line voice lsd ≡ q → (reader-list.numberIn (r .answer) ≡ 0 → ⊥)
+        → (r .state ≡ s) × (v ≡ voice) × (d ≡ lsd)
+    go (Refuse why) e h = (rw (t .outcome, e), rw (t .heard, e), rw (t .given, e))
+    go Accept e h = absurd (h (rw (t .outcome, e)))
+
+-- ---- the search goes through the places one by one, and so does the test for some place
+first-number : (n at : ℕ) (recording : List ℕ) → length recording - at ≡ n
+    → finding.foundNumber (finding.firstOf n at recording) ≡ cond (not (somewhere (drop at recording))) 10 0
+unfolding finding.firstOf somewhere
+first-number zero at recording h = rw (drop-of-length-le recording {i = at} (omega arith))
+first-number (suc n) at recording h =
+    let one : suc at ≡ at + 1 = omega arith in
+    rw (rw one at (drop-cons recording at 0 (omega arith)))
+    (go (finding.aligned (getD recording at 0 ∷ drop (at + 1) recording)) (first-number n (at + 1) recording (omega arith)))
+  where
+    go : (b : Bool) → finding.foundNumber (finding.firstOf n (at + 1) recording) ≡ cond (not (somewhere (drop (at + 1) recording))) 10 0
+        → finding.foundNumber (cond b (Found.Place at) (finding.firstOf n (at + 1) recording)) ≡ cond (not (b || somewhere (drop (at + 1) recording))) 10 0
+    go true ih = refl
+    go false ih = ih
+
+pub searching-refuses : Searching
+unfolding finding.searchOf finding.badLength
+searching-refuses recording start r e =
+    record {
+      ordered = refl;
+      exact = rw (e, length-drop start recording) (go (ltb 65536 (length recording) || ltb (length recording - start) 168));
+      kept = λ h. tt;
+    }
+  where
+    go : (b : Bool)
+        → finding.foundNumber (cond b (Found.Refused BadRecording) (finding.firstOf (length recording - start) start recording))
+        ≡ cond b 9 (cond (not (somewhere (drop start recording))) 10 0)
+    go true = refl
+    go false = first-number (length recording - start) start recording refl
+
+-- ---- where no row of a step is given, its answer is no refusal
+module _ (recording : List ℕ) (place : ℕ) (lost : Bool) (s : Reader) where
+  here-number : walk-list.numberIn (walk.answerHere recording place lost s) ≡ 0
+  here-number = go lost (finding.searchOf recording place) (ltb (walk.leftFrom recording place) 160)
+    where
+      go : (l : Bool) (f : Found) (few : Bool)
+          → walk-list.numberIn (cond l (walk.foundAgain f (walk.leftFrom recording place)) (cond few (End (walk.leftFrom recording place)) (walk.blockRead s recording place))) ≡ 0
+      go true (Found.Place p) few = refl
+      go true (Found.Refused why) few = refl
+      go false f true = refl
+      go false f false = refl
+
+  -- the answer's number is that of the ruling
+  step-number : (q : Ruling) → walk-list.numberIn (walk.answerBy q recording place lost s) ≡ rulingNumber q
+  step-number (Refuse why) = refl
+  step-number Accept = here-number
+
+pub stepping-refuses : Stepping
+unfolding walk.stepAt walk.voiceAt walk.lsdAt walk.answerAt walk-list.rulingOf
+stepping-refuses recording place lost s voice lsd r v d er ev ed =
+    record {
+      ordered = refl;
+      exact = rw er
+          (step-number recording place lost s (walk-list.rulingOf (length recording) place s (length voice) (length lsd))
+          ∙ number-is (walk-list.rows (length recording) place s (length voice) (length lsd)));
+      kept = go (walk-list.rulingOf (length recording) place s (length voice) (length lsd)) refl;
+    }
+  where
+    go : (q : Ruling) → walk-list.rulingOf (length recording) place s (length voice) (length lsd) ≡ q
+        → (walk-list.numberIn (r .answer) ≡ 0 → ⊥)
+        → (r .reader ≡ s) × (r .place ≡ place) × (r .lost ≡ lost) × (v ≡ voice) × (d ≡ lsd)
+    go (Refuse why) e h = (rw (er, e), rw (er, e), rw (er, e), rw (ev, e), rw (ed, e))
+    go Accept e h = absurd (h (rw (er, e) (here-number recording place lost s)))
+
+pub reading-preset-refuses : ReadingPreset
+unfolding presetRead
+reading-preset-refuses bits r e = record { ordered = refl; exact = rw e (go (isPreset bits) refl); kept = λ h. tt }
+  where
+    go : (b : Bool) → isPreset bits ≡ b → presetNumber ((presetRead bits) .answer) ≡ cond (not (isPreset bits)) 11 0
+    go true p = rw p
+    go false p = rw p
+
+pub writing-preset-refuses : WritingPreset
+unfolding presetWritten
+writing-preset-refuses s r e = record { ordered = refl; exact = rw e (go (sender.stateInRange s) refl); kept = λ h. tt }
+  where
+    go : (b : Bool) → sender.stateInRange s ≡ b → writtenNumber (presetWritten s) ≡ cond (not (sender.stateInRange s)) 1 0
+    go true p = rw p
+    go false p = rw p

@@ -1,0 +1,88 @@
+-- Demands 2 and 3 at the boundary. What `delampuk_send` leaves of calls over one lent state is what a session of `sender::send` leaves, in
+-- the numbers that cross to C; and what `delampuk_read` gives of a block is what a reader in step hands back, in these numbers.
+use mathlib.Core.Path.{_≡_}
+use mathlib.Core.List.{List, [], _∷_, map}
+use Prim.Native.Nat.{ℕ}
+use lib.ListN.{length}
+use Rattle.bits.specs.Bits.{octets}
+use Rattle.bas.specs.declared.Word.the-variants.{Code}
+use Rattle.slots.specs.Readings.{readingIn, readingKind, readingCode}
+use Rattle.control.specs.State.{wordDue}
+use Rattle.control.specs.declared.Sender.{Sender}
+use Rattle.track.specs.Parts.{standingNumber, verdictNumber}
+use Rattle.track.specs.declared.Reader.{Reader}
+use Rattle.track.specs.declared.Standing.the-variants.{Read}
+use Rattle.track.specs.declared.Verdict.the-variants.{None, Good}
+use Rattle.answers.specs.Answers.{sendAnswerOf}
+use Rattle.card.specs.Sending.{SendTold}
+use Rattle.card.specs.Reading.{ReadTold}
+use Rattle.card.specs.declared.ReadOutcome.{ReadOutcome}
+use Rattle.answers.specs.declared.SendAnswer.{SendAnswer}
+use Rattle.promises.specs.Session.{Turn, Left, Allowed, Entry, blockSent}
+use Rattle.promises.specs.Demand2.{wordOf, Agrees, readerAfter, voiceBits, lsdBits, Back}
+use Rattle.promises.specs.Demand3.{Alike}
+use Rattle.promises.specs.EntryPoints.{callInC}
+
+-- what a call in C is given, beside the lent state
+pub record Given : Type 0 where
+  pub mute : ℕ
+  pub code : ℕ
+  pub a : ℕ
+  pub e : ℕ
+  pub t : ℕ
+  pub voice : List ℕ
+  pub lsd : List ℕ
+  pub line : List ℕ
+
+-- what it leaves: the lent state, the answer, and the line block
+pub record LeftInC : Type 0 where
+  pub state : Sender
+  pub answer : SendAnswer
+  pub line : List ℕ
+
+-- each leaves what the contract of `delampuk_send` says
+abbrev pub LeavesInC : Sender → Given → LeftInC → Type 0
+LeavesInC s x l =
+    SendTold s (x .mute) (x .code) (x .a) (x .e) (x .t) (x .voice) (x .lsd) (x .line) (l .answer) (l .state) (l .line)
+
+-- a session that it allows: each call finds the state that the one before left in its place
+abbrev pub AllowedInC : Sender → List Given → List LeftInC → Type 0
+AllowedInC s [] [] = Unit {0}
+AllowedInC s [] (l ∷ ls) = ⊥
+AllowedInC s (x ∷ xs) [] = ⊥
+AllowedInC s (x ∷ xs) (l ∷ ls) = LeavesInC s x l × AllowedInC (l .state) xs ls
+
+-- the same call by value, and what it leaves, in numbers
+abbrev pub turnOf : Given → Turn
+turnOf x =
+    record { call = callInC (x .mute) (x .code) (x .a) (x .e) (x .t); voice = x .voice; lsd = x .lsd; line = x .line }
+
+abbrev pub inC : Left → LeftInC
+inC l = record { state = l .outcome .state; answer = sendAnswerOf (l .outcome .answer); line = l .line }
+
+abbrev pub LentIsSession : Type 0
+LentIsSession = (s : Sender) (xs : List Given) (ls : List LeftInC) → AllowedInC s xs ls
+    → (ms : List Left) × Allowed s (map turnOf xs) ms × (ls ≡ map inC ms)
+
+-- so silence holds of the lent state
+abbrev pub LentSilence : Type 0
+LentSilence = (s : Sender) (xs ys : List Given) (ls ms : List LeftInC) → AllowedInC s xs ls → AllowedInC s ys ms
+    → Alike s (map turnOf xs) (map turnOf ys) → ls ≡ ms
+
+-- ---- reading
+-- what a reader in step hands back of a block, in numbers: the block is read, its word is the word sent under the reading that its slot gives
+-- it, voice and data are the sender's, and every verdict but a first is good once the remainder agrees
+pub record BackInC (e : Entry) (r : Reader) (o : ReadOutcome) (voice lsd : List ℕ) : Type 0 where
+  pub accepted : (o .answer .kind ≡ 0) × (o .answer .number ≡ 0)
+  pub read : o .answer .block .standing ≡ standingNumber Read
+  pub kind : o .answer .block .reading ≡ readingKind (readingIn (wordDue (e .found)) (Code (wordOf e)))
+  pub code : o .answer .block .code ≡ readingCode (readingIn (wordDue (e .found)) (Code (wordOf e)))
+  pub first : r .before ≡ 0 → o .answer .block .verdict ≡ verdictNumber None
+  pub good : Agrees (e .found) r → o .answer .block .verdict ≡ verdictNumber Good
+  pub heard : voice ≡ octets 140 (voiceBits e)
+  pub given : lsd ≡ octets 156 (lsdBits e)
+  pub state : o .state ≡ readerAfter r e
+
+abbrev pub ReadBackInC : Type 0
+ReadBackInC = (e : Entry) (r : Reader) → Back e r → (voice lsd : List ℕ) (o : ReadOutcome) (v d : List ℕ) → length voice ≡ 140 → length lsd ≡ 156
+    → ReadTold r (blockSent e) voice lsd o v d → BackInC e r o v d
