@@ -22,7 +22,7 @@ over a function of the same crate that is proved already:
 The proof goes through the function's MIR step by step, and each step names what it needs by its position in the list of what is held. This
 script keeps that list and prints the positions. Of the fields of STATE, STEPPED and ANSWER it writes none but the two numbers of STEPPED's.
 
-A description is Python: see send.desc. A parameter is a name with its kind: a number's type, "shr" for &[u8], or ("mut", DEF_BUFFER) for
+A description is Python: see send.desc. ARGS are the parameters as the definitions take them. A parameter is a name with its kind: a number's type, "shr" for &[u8], or ("mut", DEF_BUFFER) for
 &mut [u8]."""
 import re
 import sys
@@ -33,7 +33,7 @@ CRATE, NAME, CALLEE = described["crate"], described["fn"], described["callee"]
 STATE_CRATE, STATE = described["state"]
 STEPPED, (ANSWER_CRATE, ANSWER) = described["stepped"], described["answer"]
 STATE_AT, STATE_FIELD, ANSWER_AT, ANSWER_FIELD = described["fields"]
-DEF, SPEC = described["definition"], described["spec"]
+DEF, ARGUMENTS, USES = described["definition"], described["arguments"], described["uses"]
 params = described["params"]
 
 WIDTH = {"u8": 8, "u16": 16, "u32": 32, "u64": 64, "usize": 64}
@@ -204,7 +204,8 @@ class Held:
         self.labels = self.labels[count:]
 
 
-args = " ".join(["h"] + ["(%s .now)" % var(p) if is_slice(p) else var(p) for p in params])
+values = {p[0]: "(%s .now)" % var(p) if is_slice(p) else var(p) for p in params}
+args = "h " + re.sub(r"\w+", lambda m: values.get(m.group(), m.group()), ARGUMENTS)
 lasts = " ".join(last(p) for p in muts)
 proofs = "Rattle.%s.proofs." % CRATE
 specs = "Rattle.%s.specs." % CRATE
@@ -265,7 +266,8 @@ def imports():
     say("use denote.Triple.Table.{entered, cited}")
     say("use denote.Triple.Walked.{says, Stays, stay-ref, stay-none, stay-none-slice, gave-slice, walkOf, AllGo, goes-ref, goes-none, goes-none-slice, goes-gave-slice, Walks, ends-at, walked, walk-meets}")
     say("use denote.Exit.{yes}")
-    say("use %s%s.{%s}" % (specs, SPEC, ", ".join([DEF] + [p[1][1] for p in muts])))
+    for module in USES:
+        say("use " + module)
     say("use Rattle.%s.specs.declared.%s.{%s}" % (STATE_CRATE, STATE, STATE))
     say("use %sdeclared.%s.{%s}" % (specs, STEPPED, STEPPED))
     for module, name in [("Rattle.%s.proofs.%s" % (STATE_CRATE, STATE), "T"), (proofs + STEPPED, "S"), ("Rattle.%s.proofs.%s" % (ANSWER_CRATE, ANSWER), "N")]:

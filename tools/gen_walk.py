@@ -26,7 +26,8 @@ exec(open(sys.argv[1], encoding="utf-8").read(), D)
 CRATE = D["crate"]
 STEP_NAME = sys.argv[2]
 FROM_NAME = f"{STEP_NAME}_from"
-(CALLEE_CRATE, CALLEE), (SPEC, DEFINED), LENT = D["steps"][STEP_NAME]
+(CALLEE_CRATE, CALLEE), (SPEC, DEFINED), (LENT, LEFT_IN) = D["steps"][STEP_NAME]
+JOIN_CRATE, JOIN_SPEC, JOIN = D["joined"]
 STEPPED, STEPPED_FIELDS = D["stepped"]
 WALK, SLICE, MOVED = D["walk"]
 ONWARD, ONWARD_FIELDS = D["onward"]
@@ -272,7 +273,14 @@ def owed(x, fact, f):
 
 REST = list(PLAIN) + list(LENT)
 LISTS = [f"z-{p}" for p in LENT]
-ARGUMENTS = " ".join([f"the-{p}" for p in PLAIN] + [f"(the-{p} .now)" for p in LENT])
+
+
+def joined(lists):
+    """the lists of the lent buffers as the definitions take them, in one record"""
+    return [f"({' '.join([JOIN, *lists])})"] if LENT else []
+
+
+ARGUMENTS = " ".join([f"the-{p}" for p in PLAIN] + joined([f"(the-{p} .now)" for p in LENT]))
 REST_ROWS = [t.row for t in PARAM.values()] + [f"MutSlice (named {i + 1}) κ-{p} u8" for i, p in enumerate(LENT)]
 REST_VALUES = [f"{t.val} the-{p}" for p, t in PARAM.items()] + [f"s the-{p}" for p in LENT]
 COUNT = len(LENT) + 1
@@ -342,7 +350,7 @@ def at_walk(x):
 
 def said(where, result):
     """what is said of a result and of the last lists, at a recording and plain fields"""
-    return " × ".join([f"({result.format(f'{DEFINED} {where} {ARGUMENTS}')})"] + [f"(z-{p} ≡ {left_in} {where} {ARGUMENTS})" for p, left_in in LENT.items()])
+    return " × ".join([f"({result.format(f'{DEFINED} {where} {ARGUMENTS}')})"] + [f"({z} ≡ {LEFT_IN} {where} {ARGUMENTS})" for z in joined(LISTS)])
 
 
 def of_result(x):
@@ -406,7 +414,9 @@ use denote.Triple.Clauses.{ensured, lasts}
 use denote.Triple.Table.{entered, cited}
 use denote.Triple.Walked.{says, Stays, stay-none, stay-none-slice, gave-slice, walkOf, AllGo, goes-none, goes-none-slice, goes-gave-slice, Walks, ends-at, walked, walk-meets}
 use denote.Exit.{yes}"""]
-    out.append(f"use Rattle.{CALLEE_CRATE}.specs.{SPEC}.{{{', '.join([DEFINED, *LENT.values()])}}}")
+    if LENT:
+        out.append(f"use Rattle.{JOIN_CRATE}.specs.{JOIN_SPEC}.{{{JOIN}}}")
+    out.append(f"use Rattle.{CALLEE_CRATE}.specs.{SPEC}.{{{', '.join([DEFINED] + ([LEFT_IN] if LENT else []))}}}")
     out.append(f"use Rattle.{CRATE}.specs.{OWN_SPEC}.{{{OPENED_DEFINED}, {ONWARD_DEFINED}}}")
     for name in [WALK, ONWARD, STEPPED, *D["types"]]:
         home = crate_of(name)
@@ -762,7 +772,7 @@ def step_proof():
                 next_facts=nest(["LL.owed «walk_type» «walk_laws» d _ g .0"] + [owed("r", "is", f) for f in MOVED]),
                 result_facts=nest(["is-walk g r is"] + [owed("r", "is", f) for f in CARRIED]),
                 last_values=nest(["tt"] * (1 + len(PLAIN)) + LISTS), last_facts=nest(["tt"] * (1 + len(PLAIN)) + [f"l-{p}" for p in LENT]),
-                result_said=", ".join([f"ap result {of_result('e')}"] + [f"e .{i}" for i in range(1, COUNT)]), exits=step_exits(), result=step_result(),
+                result_said=", ".join([f"ap result {of_result('e')}"] + (["e .1"] if LENT else [])), exits=step_exits(), result=step_result(),
                 allocated=allocated(count), steps=steps,
                 ending=ending(STEP_NAME, [AT], COUNT, [f"LL.vals (T.the-type ({lft})) (T′.the-laws ({lft}))"] + REST_VALS,
                               [f"LL.tells (T.the-type ({lft})) (T′.the-laws ({lft}))"] + REST_TELLS,
@@ -883,8 +893,8 @@ def step_from_exits():
 
 def both_said():
     """the step's word, at a walk that is what `open` says"""
-    at_opened = [f"ap (λ (y : {WALK}). {of} {at_walk('y')} {ARGUMENTS}) e" for of in [DEFINED, *LENT.values()]]
-    return ", ".join([f"ap out {of_result('f')} ∙ {at_opened[0]}"] + [f"f .{i} ∙ {at_opened[i]}" for i in range(1, COUNT)])
+    at_opened = [f"ap (λ (y : {WALK}). {of} {at_walk('y')} {ARGUMENTS}) e" for of in [DEFINED, LEFT_IN]]
+    return ", ".join([f"ap out {of_result('f')} ∙ {at_opened[0]}"] + ([f"f .1 ∙ {at_opened[1]}"] if LENT else []))
 
 
 def path_to(f):

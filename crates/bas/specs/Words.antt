@@ -22,16 +22,16 @@ unfoldable pub wordOf : ℕ → ℕ
 wordOf code = number (wordBits code)
 
 -- the bits at these places, in this order
-abbrev pub picked : List ℕ → List Bool → List Bool
-picked places bits = map (λ (i : ℕ). getD bits i false) places
+abbrev pub bitsAt : List ℕ → List Bool → List Bool
+bitsAt places bits = map (λ (i : ℕ). getD bits i false) places
 
 -- even frame order: b0 b3 b2 b1 b5 b4 b6 b7
 unfoldable pub evenOrder : List Bool → List Bool
-evenOrder b = picked (0 ∷ 3 ∷ 2 ∷ 1 ∷ 5 ∷ 4 ∷ 6 ∷ 7 ∷ []) b
+evenOrder b = bitsAt (0 ∷ 3 ∷ 2 ∷ 1 ∷ 5 ∷ 4 ∷ 6 ∷ 7 ∷ []) b
 
 -- odd: p2 p1 p0 p4 p3 p5 p6 p7
 unfoldable pub oddOrder : List Bool → List Bool
-oddOrder p = picked (2 ∷ 1 ∷ 0 ∷ 4 ∷ 3 ∷ 5 ∷ 6 ∷ 7 ∷ []) p
+oddOrder p = bitsAt (2 ∷ 1 ∷ 0 ∷ 4 ∷ 3 ∷ 5 ∷ 6 ∷ 7 ∷ []) p
 
 -- a word's bits as they go out: SC bits 9 to 16 of the even frame, and then of the odd one
 unfoldable pub lineOrder : List Bool → List Bool

@@ -11,7 +11,7 @@ pub enum Word {
     Unreadable,
 }
 
-// For each remainder the bits to flip, or 65535 where no flip of at most two bits mends it.
+// For each remainder the bits to flip, or 65535 where no flip of at most two bits mends it (DECISIONS G8).
 const FLIPS: [u16; 256] = [
     0,
     1,
@@ -307,7 +307,7 @@ fn flips(remainder: u8) -> u16
     FLIPS[remainder as usize]
 }
 
-// The reading of a word that came, in its natural order. Most words come unharmed, and the table is read only for the others.
+// The reading of a word that came, in its natural order. Most words come unharmed, and the table is read only for the others (DECISIONS F36).
 pub fn read_word(word: u16) -> Word
     ensures { λ r. ⌜ r ≡ readingOf word ⌝ }
 {

@@ -2,6 +2,7 @@
 // and 'Refusal numbers').
 ghost use mathlib.Core.Path.{_≡_};
 ghost use Rattle.refusals.specs.Rows.{inTurn, judged};
+ghost use Rattle.buffers.specs.Buffers.{each};
 ghost use Rattle.buffers.specs.Lengths.{fitting, lineRow, streamRows};
 use refusals::Refusal;
 use refusals::Ruling;
@@ -15,7 +16,7 @@ pub const LSD: usize = 156;
 
 // Whether a line block, a voice buffer and a data buffer have these lengths.
 pub fn lengths_fit(line: usize, voice: usize, lsd: usize) -> bool
-    ensures { λ r. ⌜ r ≡ fitting line voice lsd ⌝ }
+    ensures { λ r. ⌜ r ≡ fitting line (each voice lsd) ⌝ }
 {
     (line == LINE) & (voice == VOICE) & (lsd == LSD)
 }
@@ -29,7 +30,7 @@ pub fn judge_line(ruling: Ruling, line: usize) -> Ruling
 
 // The same with rows 3 and 4, which look at the lengths of the two streams' buffers.
 pub fn judge_streams(ruling: Ruling, voice: usize, lsd: usize) -> Ruling
-    ensures { λ r. ⌜ r ≡ inTurn ruling (streamRows voice lsd) ⌝ }
+    ensures { λ r. ⌜ r ≡ inTurn ruling (streamRows (each voice lsd)) ⌝ }
 {
     let heard = refusals::judge(ruling, Refusal::VoiceLength, voice != VOICE);
     refusals::judge(heard, Refusal::LsdLength, lsd != LSD)

@@ -7,6 +7,7 @@ use Prim.Native.Nat.{ℕ, zero, suc}
 use native.Mathlib.Nat.{suc-ne-zero}
 use borrow.Author.Tests.{ne-eqb}
 use Rattle.bits.proofs.Settled.{settled}
+use Rattle.buffers.specs.Buffers.{Buffers}
 use Rattle.reader.specs.Step.{Told}
 use Rattle.track.specs.declared.Reader.{Reader}
 use Rattle.reader.specs.declared.Outcome.{Outcome}
@@ -21,31 +22,31 @@ use Rattle.card.specs.declared.ReadOutcome.{ReadOutcome}
 use Rattle.answers.specs.declared.StepAnswer.{StepAnswer}
 use Rattle.card.specs.declared.StepOutcome.{StepOutcome}
 
-module _ (s : Reader) (line voice lsd : List ℕ) where
+module _ (s : Reader) (line : List ℕ) (b : Buffers) where
   -- any two outcomes that the contract of `delampuk_read` allows are equal
-  pub delampuk-read-settled : (r q : ReadOutcome) (v w d e : List ℕ) → ReadTold s line voice lsd r v d → ReadTold s line voice lsd q w e → (r ≡ q) × (v ≡ w) × (d ≡ e)
-  delampuk-read-settled r q v w d e x y = (settled (x .0) (y .0), settled (x .1) (y .1), settled (x .2) (y .2))
+  pub delampuk-read-settled : (r q : ReadOutcome) (v w : Buffers) → ReadTold s line b r v → ReadTold s line b q w → (r ≡ q) × (v ≡ w)
+  delampuk-read-settled r q v w x y = (settled (x .0) (y .0), settled (x .1) (y .1))
 
-  pub read-is : (o : Outcome) (v l : List ℕ) (n : ReadAnswer)
-      → Told s line voice lsd o v l
+  pub read-is : (o : Outcome) (after : Buffers) (n : ReadAnswer)
+      → Told s line b o after
       → n ≡ readAnswerOf (o .answer)
-      → ReadTold s line voice lsd (record { state = o .state; answer = n }) v l
-  read-is o v l n told e = (rw e (ap readOutcomeOf (told .outcome)), told .heard, told .given)
+      → ReadTold s line b (record { state = o .state; answer = n }) after
+  read-is o after n told e = (rw e (ap readOutcomeOf (told .outcome)), told .handed)
 
-module _ (recording : List ℕ) (place mark : ℕ) (s : Reader) (voice lsd : List ℕ) where
+module _ (recording : List ℕ) (place mark : ℕ) (s : Reader) (b : Buffers) where
   -- any two outcomes that the contract of `delampuk_step` allows are equal
-  pub delampuk-step-settled : (r q : StepOutcome) (v w d e : List ℕ) → StepTold recording place mark s voice lsd r v d → StepTold recording place mark s voice lsd q w e → (r ≡ q) × (v ≡ w) × (d ≡ e)
-  delampuk-step-settled r q v w d e x y = (settled (x .0) (y .0), settled (x .1) (y .1), settled (x .2) (y .2))
+  pub delampuk-step-settled : (r q : StepOutcome) (v w : Buffers) → StepTold recording place mark s b r v → StepTold recording place mark s b q w → (r ≡ q) × (v ≡ w)
+  delampuk-step-settled r q v w x y = (settled (x .0) (y .0), settled (x .1) (y .1))
 
-  pub step-is : (lost : Bool) (t : Stepped) (v l : List ℕ) (m : ℕ) (n : StepAnswer)
+  pub step-is : (lost : Bool) (t : Stepped) (after : Buffers) (m : ℕ) (n : StepAnswer)
       → lost ≡ on mark
-      → Left recording place lost s voice lsd t v l
+      → Left recording place lost s b t after
       → m ≡ markAfter mark (t .lost)
       → n ≡ stepAnswerOf (t .answer)
-      → StepTold recording place mark s voice lsd (record { reader = t .reader; lost = m; place = t .place; answer = n }) v l
-  step-is lost t v l m n e told em en =
+      → StepTold recording place mark s b (record { reader = t .reader; lost = m; place = t .place; answer = n }) after
+  step-is lost t after m n e told em en =
       let h = rw e at told in
-      (rw (em, en) (ap (stepOutcomeOf mark) (h .0)), h .1, h .2)
+      (rw (em, en) (ap (stepOutcomeOf mark) (h .0)), h .1)
 
 -- a mark that a step leaves is the one that was given
 pub mark-still : (mark : ℕ) → markAfter mark (on mark) ≡ mark

@@ -2,7 +2,8 @@
 use mathlib.Core.Path.{_≡_}
 use mathlib.Core.List.{List}
 use Prim.Native.Nat.{ℕ}
-use Rattle.reader.specs.Step.{outcomeOf, voiceOf, lsdOf}
+use Rattle.buffers.specs.Buffers.{Buffers}
+use Rattle.reader.specs.Step.{outcomeOf, buffersOf}
 use Rattle.track.specs.declared.Reader.{Reader}
 use Rattle.reader.specs.declared.Outcome.{Outcome}
 use Rattle.answers.specs.Answers.{readAnswerOf}
@@ -11,7 +12,6 @@ use Rattle.card.specs.declared.ReadOutcome.{ReadOutcome}
 abbrev pub readOutcomeOf : Outcome → ReadOutcome
 readOutcomeOf o = record { state = o .state; answer = readAnswerOf (o .answer) }
 
--- all that the contract of `delampuk_read` says of its result `r` and of the two buffers at exit
-abbrev pub ReadTold : Reader → List ℕ → List ℕ → List ℕ → ReadOutcome → List ℕ → List ℕ → Type 0
-ReadTold s line voice lsd r v d =
-    (r ≡ readOutcomeOf (outcomeOf s line voice lsd)) × (v ≡ voiceOf s line voice lsd) × (d ≡ lsdOf s line voice lsd)
+-- all that the contract of `delampuk_read` says of its result `r` and of the buffers at exit, `after`
+abbrev pub ReadTold : Reader → List ℕ → Buffers → ReadOutcome → Buffers → Type 0
+ReadTold s line b r after = (r ≡ readOutcomeOf (outcomeOf s line b)) × (after ≡ buffersOf s line b)

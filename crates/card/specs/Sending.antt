@@ -4,6 +4,7 @@ use mathlib.Core.Bool.{Bool, not}
 use mathlib.Core.List.{List}
 use Prim.Native.Nat.{ℕ}
 use lib.Dec.{eqb}
+use Rattle.buffers.specs.Buffers.{Buffers}
 use Rattle.sender.specs.Step.{outcomeOf, lineOf}
 use Rattle.control.specs.declared.Sender.{Sender}
 use Rattle.control.specs.declared.Call.{Call}
@@ -18,18 +19,12 @@ on switch = not (eqb switch 0)
 abbrev pub callOf : ℕ → ℕ → ℕ → ℕ → ℕ → Call
 callOf mute code a e t = record { mute = on mute; code = code; a = on a; e = on e; t = on t }
 
--- the state and the answer that a call leaves, and what the lent line holds after it
-unfoldable pub sent : Sender → ℕ → ℕ → ℕ → ℕ → ℕ → List ℕ → List ℕ → List ℕ → SendStepped
-sent s mute code a e t voice lsd line =
-    let o = outcomeOf s (callOf mute code a e t) voice lsd line in
+-- the state and the answer that a call leaves
+unfoldable pub sent : Sender → Call → Buffers → List ℕ → SendStepped
+sent s c b line =
+    let o = outcomeOf s c b line in
     record { state = o .state; answer = sendAnswerOf (o .answer) }
 
-unfoldable pub lineSent : Sender → ℕ → ℕ → ℕ → ℕ → ℕ → List ℕ → List ℕ → List ℕ → List ℕ
-lineSent s mute code a e t voice lsd line = lineOf s (callOf mute code a e t) voice lsd line
-
 -- all that the contract of `delampuk_send` says of its answer `r`, and of the lent state `n` and the line `l` at exit
-abbrev pub SendTold : Sender → ℕ → ℕ → ℕ → ℕ → ℕ → List ℕ → List ℕ → List ℕ → SendAnswer → Sender → List ℕ → Type 0
-SendTold s mute code a e t voice lsd line r n l =
-    (r ≡ (sent s mute code a e t voice lsd line) .answer)
-    × (n ≡ (sent s mute code a e t voice lsd line) .state)
-    × (l ≡ lineSent s mute code a e t voice lsd line)
+abbrev pub SendTold : Sender → Call → Buffers → List ℕ → SendAnswer → Sender → List ℕ → Type 0
+SendTold s c b line r n l = (r ≡ (sent s c b line) .answer) × (n ≡ (sent s c b line) .state) × (l ≡ lineOf s c b line)

@@ -4,8 +4,9 @@ use mathlib.Core.Bool.{Bool, cond}
 use mathlib.Core.List.{List}
 use Prim.Native.Nat.{ℕ}
 use lib.Dec.{eqb}
+use Rattle.buffers.specs.Buffers.{Buffers}
 use Rattle.track.specs.declared.Reader.{Reader}
-use Rattle.recording.specs.Walk.{stepAt, voiceAt, lsdAt}
+use Rattle.recording.specs.Walk.{stepAt, buffersAt}
 use Rattle.recording.specs.declared.Stepped.{Stepped}
 use Rattle.answers.specs.Answers.{stepAnswerOf}
 use Rattle.card.specs.Sending.{on}
@@ -24,9 +25,7 @@ stepOutcomeOf mark s =
       answer = stepAnswerOf (s .answer);
     }
 
--- all that the contract of `delampuk_step` says of its result `r` and of the two buffers at exit
-abbrev pub StepTold : List ℕ → ℕ → ℕ → Reader → List ℕ → List ℕ → StepOutcome → List ℕ → List ℕ → Type 0
-StepTold recording place mark s voice lsd r v d =
-    (r ≡ stepOutcomeOf mark (stepAt recording place (on mark) s voice lsd))
-    × (v ≡ voiceAt recording place (on mark) s voice lsd)
-    × (d ≡ lsdAt recording place (on mark) s voice lsd)
+-- all that the contract of `delampuk_step` says of its result `r` and of the buffers at exit, `after`
+abbrev pub StepTold : List ℕ → ℕ → ℕ → Reader → Buffers → StepOutcome → Buffers → Type 0
+StepTold recording place mark s b r after =
+    (r ≡ stepOutcomeOf mark (stepAt recording place (on mark) s b)) × (after ≡ buffersAt recording place (on mark) s b)

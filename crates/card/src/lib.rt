@@ -1,15 +1,17 @@
 // What a card driver in C calls. An answer is numbers here, by the definitions of specs/, which give document 01's number and values for
 // each case. No call asks anything of its numbers and lengths: each of them is answered.
 ghost use mathlib.Core.Path.{_≡_};
+ghost use Rattle.buffers.specs.Buffers.{each};
 ghost use Rattle.modes.specs.Modes.{audioOff, off};
 ghost use Rattle.search.specs.Finding.{searchOf};
+ghost use Rattle.sender.specs.Step.{lineOf};
 ghost use Rattle.control.specs.State.{freshWith};
 ghost use Rattle.presets.specs.Presets.{presetRead, presetWritten, presetNumber};
 ghost use Rattle.track.specs.State.{freshIn};
 ghost use Rattle.text.specs.Over.{Written};
-ghost use Rattle.lines.specs.Listing.{listingOf};
+ghost use Rattle.scribe.specs.Listing.{listingOf};
 ghost use Rattle.answers.specs.Answers.{searchAnswerOf};
-ghost use Rattle.card.specs.Sending.{on, sent, lineSent};
+ghost use Rattle.card.specs.Sending.{on, callOf, sent};
 ghost use Rattle.card.specs.Reading.{ReadTold};
 ghost use Rattle.card.specs.Walking.{markAfter, StepTold};
 ghost use Rattle.card.specs.Presets.{presetOutcomeOf, presetBitsOf};
@@ -56,7 +58,7 @@ pub struct PresetBits {
     pub number: u8,
 }
 
-// A switch of C. It is an octet, for a bool that holds neither 0 nor 1 is undefined in C, and here every octet is answered.
+// A switch of C. It is an octet, for a bool that holds neither 0 nor 1 is undefined in C, and here every octet is answered (DECISIONS F30).
 fn is_on(switch: u8) -> bool
     ensures { λ r. ⌜ r ≡ on switch ⌝ }
 {
@@ -75,8 +77,8 @@ fn send_step(
     lsd: &[u8],
     line: &mut [u8],
 ) -> SendStepped
-    ensures { λ r. ⌜ (r ≡ sent state mute code a e t (now (voice .entry)) (now (lsd .entry)) (now (line .entry)))
-        × (now (line .exit) ≡ lineSent state mute code a e t (now (voice .entry)) (now (lsd .entry)) (now (line .entry))) ⌝ }
+    ensures { λ r. ⌜ (r ≡ sent state (callOf mute code a e t) (each (now (voice .entry)) (now (lsd .entry))) (now (line .entry)))
+        × (now (line .exit) ≡ lineOf state (callOf mute code a e t) (each (now (voice .entry)) (now (lsd .entry))) (now (line .entry))) ⌝ }
 {
     let call = Call {
         mute: is_on(mute),
@@ -109,9 +111,9 @@ pub extern "C" fn delampuk_send(
     lsd: &[u8],
     line: &mut [u8],
 ) -> SendAnswer
-    ensures { λ r. ⌜ (r ≡ sent (now (state .entry)) mute code a e t (now (voice .entry)) (now (lsd .entry)) (now (line .entry)) .answer)
-        × (now (state .exit) ≡ sent (now (state .entry)) mute code a e t (now (voice .entry)) (now (lsd .entry)) (now (line .entry)) .state)
-        × (now (line .exit) ≡ lineSent (now (state .entry)) mute code a e t (now (voice .entry)) (now (lsd .entry)) (now (line .entry))) ⌝ }
+    ensures { λ r. ⌜ (r ≡ sent (now (state .entry)) (callOf mute code a e t) (each (now (voice .entry)) (now (lsd .entry))) (now (line .entry)) .answer)
+        × (now (state .exit) ≡ sent (now (state .entry)) (callOf mute code a e t) (each (now (voice .entry)) (now (lsd .entry))) (now (line .entry)) .state)
+        × (now (line .exit) ≡ lineOf (now (state .entry)) (callOf mute code a e t) (each (now (voice .entry)) (now (lsd .entry))) (now (line .entry))) ⌝ }
 {
     let stepped = send_step(*state, mute, code, a, e, t, voice, lsd, line);
     *state = stepped.state;
@@ -188,7 +190,7 @@ pub extern "C" fn delampuk_read(
     voice: &mut [u8],
     lsd: &mut [u8],
 ) -> ReadOutcome
-    ensures { λ r. ⌜ ReadTold state (now (line .entry)) (now (voice .entry)) (now (lsd .entry)) r (now (voice .exit)) (now (lsd .exit)) ⌝ }
+    ensures { λ r. ⌜ ReadTold state (now (line .entry)) (each (now (voice .entry)) (now (lsd .entry))) r (each (now (voice .exit)) (now (lsd .exit))) ⌝ }
 {
     let outcome = reader::read(state, line, voice, lsd);
     let next = outcome.state;
@@ -231,7 +233,7 @@ pub extern "C" fn delampuk_step(
     voice: &mut [u8],
     lsd: &mut [u8],
 ) -> StepOutcome
-    ensures { λ r. ⌜ StepTold (now (recording .entry)) place lost state (now (voice .entry)) (now (lsd .entry)) r (now (voice .exit)) (now (lsd .exit)) ⌝ }
+    ensures { λ r. ⌜ StepTold (now (recording .entry)) place lost state (each (now (voice .entry)) (now (lsd .entry))) r (each (now (voice .exit)) (now (lsd .exit))) ⌝ }
 {
     let stepped = walk::step_from(recording, place, is_on(lost), state, voice, lsd);
     let next = stepped.reader;
@@ -253,5 +255,5 @@ pub extern "C" fn delampuk_step(
 pub extern "C" fn delampuk_list(recording: &[u8], text: &mut [u8]) -> usize
     ensures { λ r. ⌜ Written 0 (listingOf (now (recording .entry))) (now (text .entry)) r (now (text .exit)) ⌝ }
 {
-    lines::list(recording, text)
+    scribe::list(recording, text)
 }

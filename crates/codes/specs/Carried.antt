@@ -17,7 +17,7 @@ carried code =
     || within 0b100 0b110 (attribute code)
     || eqb (attribute code) 0b111 && (within 15 20 (value code) || eqb (value code) 24)
 
--- the sender's list and the reader's: two names, one list
+-- the sender's list and the reader's: two names, one list (DECISIONS F7)
 unfoldable pub senderCarries : ℕ → Bool
 senderCarries code = carried code
 

@@ -25,7 +25,7 @@ offered (SetAudio v) m = withAudio m v
 offered (SetLsd v) m = withLsd m v
 offered NoEffect m = m
 
--- what a command does at the reader: every other stream that the stream set by it overlaps is turned off
+-- what a command does at the reader: every other stream that the stream set by it overlaps is turned off (DECISIONS R16)
 unfoldable pub followed : Command → Mode → Mode
 followed Neutral m = off
 followed (SetAudio v) m = cleared Voice (withAudio m v)

@@ -2,11 +2,13 @@
 use mathlib.Core.Path.{_≡_, refl}
 use mathlib.Core.Bool.{Bool, true, false, not, _&&_}
 use Prim.Native.Nat.{ℕ}
-use borrow.Author.Tests.{eqb-true, not-false, eq-eqb}
+use borrow.Author.Tests.{eqb-true, not-false}
 use Rattle.refusals.specs.declared.Ruling.{Ruling}
 use Rattle.refusals.specs.declared.Ruling.the-variants.{Refuse, Accept}
 use Rattle.refusals.proofs.RowLaws.{none-given}
-use Rattle.buffers.specs.Lengths.{lineOctets, voiceOctets, lsdOctets, fitting}
+use Rattle.buffers.specs.Buffers.{Each}
+use Rattle.buffers.specs.Lengths.{lineOctets, streamOctets, fitting}
+use Rattle.buffers.proofs.LengthLaws.{streams-fit, fits}
 use Rattle.codes.specs.Carried.{senderCarries}
 use Rattle.control.specs.State.{stateInRange}
 use Rattle.control.specs.Rules.{ruleOf}
@@ -15,23 +17,21 @@ use Rattle.control.specs.Decisions.{decisionBy, decisionOf}
 use Rattle.control.specs.declared.Sender.{Sender}
 use Rattle.control.specs.declared.Call.{Call}
 
-pub record Goes (s : Sender) (c : Call) (l v d : ℕ) : Type 0 where
+pub record Goes (s : Sender) (c : Call) (l : ℕ) (n : Each ℕ) : Type 0 where
   pub range : stateInRange s ≡ true
   pub line : l ≡ lineOctets
-  pub voice : v ≡ voiceOctets
-  pub lsd : d ≡ lsdOctets
+  pub streams : n ≡ streamOctets
   pub known : goesPlain (ruleOf s (c .mute)) ≡ true → senderCarries (c .code) ≡ true
   pub apart : goesPlain (ruleOf s (c .mute)) ≡ true → clashes s (c .code) ≡ false
 
-pub goes : (s : Sender) (c : Call) (line voice lsd : ℕ) → rulingOf s c line voice lsd ≡ Accept → Goes s c line voice lsd
+pub goes : (s : Sender) (c : Call) (line : ℕ) (n : Each ℕ) → rulingOf s c line n ≡ Accept → Goes s c line n
 unfolding rulingOf
-goes s c line voice lsd e =
-    let h = none-given (rows s c line voice lsd) e in
+goes s c line n e =
+    let h = none-given (rows s c line n) e in
     record {
       range = not-false _ (h .0);
       line = eqb-true _ _ (not-false _ (h .1 .0));
-      voice = eqb-true _ _ (not-false _ (h .1 .1 .0));
-      lsd = eqb-true _ _ (not-false _ (h .1 .1 .1 .0));
+      streams = streams-fit n (h .1 .1 .0) (h .1 .1 .1 .0);
       known = λ g. not-false (senderCarries (c .code)) (plain g (not (senderCarries (c .code))) (h .1 .1 .1 .1 .0));
       apart = λ g. plain g (clashes s (c .code)) (h .1 .1 .1 .1 .1 .1 .1 .0);
     }
@@ -44,13 +44,10 @@ ruling-kept : (q : Ruling) (s : Sender) (c : Call) → (decisionBy q s c) .rulin
 ruling-kept (Refuse r) s c = refl
 ruling-kept Accept s c = refl
 
-pub decision-ruling : (s : Sender) (c : Call) (line voice lsd : ℕ) → (decisionOf s c line voice lsd) .ruling ≡ rulingOf s c line voice lsd
+pub decision-ruling : (s : Sender) (c : Call) (line : ℕ) (n : Each ℕ) → (decisionOf s c line n) .ruling ≡ rulingOf s c line n
 unfolding decisionOf
-decision-ruling s c line voice lsd = ruling-kept (rulingOf s c line voice lsd) s c
+decision-ruling s c line n = ruling-kept (rulingOf s c line n) s c
 
 -- so the lengths fit a block
-pub goes-fitting : (s : Sender) (c : Call) (line voice lsd : ℕ) → rulingOf s c line voice lsd ≡ Accept → fitting line voice lsd ≡ true
-unfolding fitting
-goes-fitting s c line voice lsd e =
-    let g = goes s c line voice lsd e in
-    rw (eq-eqb line lineOctets (g .line), eq-eqb voice voiceOctets (g .voice), eq-eqb lsd lsdOctets (g .lsd))
+pub goes-fitting : (s : Sender) (c : Call) (line : ℕ) (n : Each ℕ) → rulingOf s c line n ≡ Accept → fitting line n ≡ true
+goes-fitting s c line n e = let g = goes s c line n e in fits line n (g .line) (g .streams)

@@ -5,6 +5,7 @@ use Prim.Native.Nat.{ℕ, _<_}
 use lib.Dec.{eqb, leb}
 use borrow.Author.Tests.{eq-eqb}
 use Rattle.bits.proofs.Every.{and-left, and-right, or-left-false, or-right-false}
+use Rattle.buffers.specs.Buffers.{Each}
 use Rattle.modes.specs.Owners.{within, overlaps}
 use Rattle.modes.specs.Modes.{audioOff, withAudio, withLsd, inRange}
 use Rattle.modes.proofs.ModeLaws.{following-low, Ranged, ranged, in-range, audio-small, lsd-small, off-ranged}
@@ -89,11 +90,11 @@ next-kept Release s code rem k low apart =
 next-kept Offered s code rem k low apart = offered-kept s code rem k low (apart refl)
 
 -- whatever is decided of a state in range leaves one in range, with any remainder that is at most 15
-pub decided-in-range : (s : Sender) (c : Call) (line voice lsd rem : ℕ) → stateInRange s ≡ true → leb rem 15 ≡ true
-    → rulingOf s c line voice lsd ≡ Accept → stateInRange (withRemainder ((decisionOf s c line voice lsd) .next) rem) ≡ true
+pub decided-in-range : (s : Sender) (c : Call) (line : ℕ) (n : Each ℕ) (rem : ℕ) → stateInRange s ≡ true → leb rem 15 ≡ true
+    → rulingOf s c line n ≡ Accept → stateInRange (withRemainder ((decisionOf s c line n) .next) rem) ≡ true
 unfolding decisionOf
-decided-in-range s c line voice lsd rem r low e =
-    rw e (keeps _ (next-kept (ruleOf s (c .mute)) s (c .code) rem (kept s r) low (goes s c line voice lsd e .apart)))
+decided-in-range s c line n rem r low e =
+    rw e (keeps _ (next-kept (ruleOf s (c .mute)) s (c .code) rem (kept s r) low (goes s c line n e .apart)))
 
 -- ---- what a state in range holds is small
 pub chosen-small : (s : Sender) → stateInRange s ≡ true → s .chosen < 32

@@ -2,6 +2,7 @@
 use Prim.Native.Nat.{ℕ}
 use Rattle.refusals.specs.declared.Ruling.{Ruling}
 use Rattle.refusals.specs.declared.Ruling.the-variants.{Refuse, Accept}
+use Rattle.buffers.specs.Buffers.{Each}
 use Rattle.modes.specs.Numbers.{following}
 use Rattle.control.specs.Rules.{ruleOf}
 use Rattle.control.specs.Plans.{planBy}
@@ -29,6 +30,6 @@ decisionBy Accept s c =
     let p = planBy (ruleOf s (c .mute)) s (c .code) in
     record { ruling = Accept; word = p .word; answer = p .answer; next = nextBy p s }
 
--- what is decided of a call with buffers of these lengths
-unfoldable pub decisionOf : Sender → Call → ℕ → ℕ → ℕ → Decision
-decisionOf s c line voice lsd = decisionBy (rulingOf s c line voice lsd) s c
+-- what is decided of a call with a line block and buffers of these lengths
+unfoldable pub decisionOf : Sender → Call → ℕ → Each ℕ → Decision
+decisionOf s c line n = decisionBy (rulingOf s c line n) s c

@@ -25,7 +25,7 @@ abbrev plan : ℕ → Answer → ℕ → Mode → ℕ → Plan
 plan word answer chosen mode due = record { word = word; answer = answer; chosen = chosen; mode = mode; due = due }
 
 -- an item acts on nothing; mute's "audio off" turns only in force off, and the chosen command only puts chosen in force; in these two
--- cases the offered code is held. An offered audio command sets chosen and in force together
+-- cases the offered code is held. An offered audio command sets chosen and in force together (DECISIONS S6, S7)
 unfoldable pub planBy : Rule → Sender → ℕ → Plan
 planBy AsItem s code = plan code Sent (s .chosen) (s .mode) 0
 planBy MuteOff s code = plan (written audioAttribute audioOff) Held (s .chosen) (withAudio (s .mode) audioOff) 0

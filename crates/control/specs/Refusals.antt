@@ -7,6 +7,7 @@ use Rattle.refusals.specs.Numbers.{numberOf}
 use Rattle.refusals.specs.Rows.{Row, row, firstGiven}
 use Rattle.refusals.specs.declared.Refusal.the-variants.{BadState, NotCarried, ForbiddenItem, AudioWhileMuted, Overlap}
 use Rattle.refusals.specs.declared.Ruling.{Ruling}
+use Rattle.buffers.specs.Buffers.{Each}
 use Rattle.buffers.specs.Lengths.{lineRow, streamRows}
 use Rattle.modes.specs.Owners.{overlaps}
 use Rattle.modes.specs.Modes.{withAudio, withLsd}
@@ -28,12 +29,12 @@ isAudio code = eqb (attribute code) audioAttribute
 abbrev pub isLsd : ℕ → Bool
 isLsd code = eqb (attribute code) lsdAttribute
 
--- an audio command overlaps data in force, or a data command overlaps chosen audio
+-- an audio command overlaps data in force, or a data command overlaps chosen audio (DECISIONS S9, F47)
 unfoldable pub clashes : Sender → ℕ → Bool
 clashes s code =
     isAudio code && overlaps (withAudio (s .mode) (value code)) || isLsd code && overlaps (withLsd (chosenMode s) (value code))
 
--- rows 5 to 8 look only at an offered code that is not held; 5, 7 and 8 only where no item is due
+-- rows 5 to 8 look only at an offered code that is not held; 5, 7 and 8 only where no item is due (DECISIONS S3, S5)
 abbrev pub goesPlain : Rule → Bool
 goesPlain AsItem = false
 goesPlain MuteOff = false
@@ -46,21 +47,21 @@ goesAsItem MuteOff = false
 goesAsItem Release = false
 goesAsItem Offered = false
 
--- the rows of a call with buffers of these lengths, in their order
-abbrev pub rows : Sender → Call → ℕ → ℕ → ℕ → List Row
-rows s c line voice lsd =
+-- the rows of a call with a line block and buffers of these lengths, in their order
+abbrev pub rows : Sender → Call → ℕ → Each ℕ → List Row
+rows s c line n =
     let rule = ruleOf s (c .mute) in
     row BadState (not (stateInRange s))
     ∷ lineRow line
-    ∷ streamRows voice lsd
+    ∷ streamRows n
     ++ row NotCarried (goesPlain rule && not (senderCarries (c .code)))
     ∷ row ForbiddenItem (goesAsItem rule && eqb (attribute (c .code)) 0b111)
     ∷ row AudioWhileMuted (goesPlain rule && isAudio (c .code) && c .mute)
     ∷ row Overlap (goesPlain rule && clashes s (c .code))
     ∷ []
 
-unfoldable pub rulingOf : Sender → Call → ℕ → ℕ → ℕ → Ruling
-rulingOf s c line voice lsd = firstGiven (rows s c line voice lsd)
+unfoldable pub rulingOf : Sender → Call → ℕ → Each ℕ → Ruling
+rulingOf s c line n = firstGiven (rows s c line n)
 
 -- what an answer stands for: its kind, sent, held or refused; and the number of the refusal, 0 where nothing is refused
 abbrev pub kindOf : Answer → ℕ

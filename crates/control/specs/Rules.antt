@@ -6,7 +6,7 @@ use Rattle.control.specs.declared.Rule.{Rule}
 use Rattle.control.specs.declared.Rule.the-variants.{AsItem, MuteOff, Release, Offered}
 
 -- if an item is due, the offered code goes as that item. If none is due: with mute set and audio in force at entry, "audio off" goes;
--- with mute clear, in force off and chosen not, the chosen command goes. In all others the offered code goes
+-- with mute clear, in force off and chosen not, the chosen command goes. In all others the offered code goes (DECISIONS S1, S2)
 unfoldable pub ruleOf : Sender → Bool → Rule
 ruleOf s mute =
     cond (itemDue s) AsItem

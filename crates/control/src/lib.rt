@@ -2,6 +2,7 @@
 // left (document 01, 'Sending a block' and 'Refusal numbers').
 ghost use mathlib.Core.Path.{_≡_};
 ghost use Rattle.modes.specs.Modes.{audioOff};
+ghost use Rattle.buffers.specs.Buffers.{each};
 ghost use Rattle.control.specs.State.{chosenMode, stateInRange, freshWith};
 ghost use Rattle.control.specs.Rules.{ruleOf};
 ghost use Rattle.control.specs.Plans.{dueNumber, planBy};
@@ -14,7 +15,7 @@ use refusals::Refusal;
 use refusals::Ruling;
 
 // What a sender keeps between blocks, laid out as in C for a card driver. The chosen audio stands apart from the audio in force; `due` is
-// 0, or an item is due.
+// 0, or an item is due (DECISIONS F46).
 #[repr(C)]
 pub struct Sender {
     pub chosen: u8,
@@ -143,7 +144,7 @@ fn clash(s: Sender, code: u8) -> bool
 
 // The rows of a call with buffers of these lengths, in their order.
 fn ruling_of(s: Sender, c: Call, line: usize, voice: usize, lsd: usize) -> Ruling
-    ensures { λ r. ⌜ r ≡ rulingOf s c line voice lsd ⌝ }
+    ensures { λ r. ⌜ r ≡ rulingOf s c line (each voice lsd) ⌝ }
 {
     let mute = c.mute;
     let code = c.code;
@@ -248,9 +249,9 @@ fn next_by(p: Plan, s: Sender) -> Sender
     }
 }
 
-// What is decided of a call with buffers of these lengths.
+// What is decided of a call with a line block and buffers of these lengths.
 pub fn decide(s: Sender, c: Call, line: usize, voice: usize, lsd: usize) -> Decision
-    ensures { λ r. ⌜ r ≡ decisionOf s c line voice lsd ⌝ }
+    ensures { λ r. ⌜ r ≡ decisionOf s c line (each voice lsd) ⌝ }
 {
     let ruling = ruling_of(s, c, line, voice, lsd);
     match ruling {

@@ -2,6 +2,7 @@
 // mute released. Every block goes into a recording, which is listed at the end as the far end reads it.
 ghost use Prim.Native.Nat.{_+_, _^_, _≤_, _<_};
 ghost use lib.ListN.{length};
+ghost use Rattle.buffers.specs.Lengths.{lineOctets};
 use control::Answer;
 use control::Call;
 use control::Sender;
@@ -106,31 +107,31 @@ fn tell_line(answer: Answer, line: &[u8]) {
 
 // The call, with the same voice and data each time.
 fn framed(state: Sender, call: Call, line: &mut [u8]) -> Outcome {
-    let voice = [85u8; 140];
-    let lsd = [51u8; 156];
+    let voice = [85u8; buffers::VOICE];
+    let lsd = [51u8; buffers::LSD];
     sender::send(state, call, &voice, &lsd, line)
 }
 
 // Where the recording ends after a call: a refused one takes no place.
 fn end_after(answer: Answer, end: usize) -> usize
-    requires { ⌜ end + 160 < 2 ^ 63 ⌝ }
-    ensures { λ r. ⌜ r ≤ end + 160 ⌝ }
+    requires { ⌜ end + lineOctets < 2 ^ 63 ⌝ }
+    ensures { λ r. ⌜ r ≤ end + lineOctets ⌝ }
 {
     match answer {
-        Answer::Sent => end + 160,
-        Answer::Held => end + 160,
+        Answer::Sent => end + buffers::LINE,
+        Answer::Held => end + buffers::LINE,
         Answer::Refused(_) => end,
     }
 }
 
 // One call, its block written where the recording ends.
 fn recorded(recording: &mut [u8], found: Lesson, call: Call) -> Made
-    requires { ⌜ found .end + 160 ≤ length (now recording) ⌝ }
-    ensures { λ r. ⌜ r .lesson .end ≤ found .end + 160 ⌝ }
+    requires { ⌜ found .end + lineOctets ≤ length (now recording) ⌝ }
+    ensures { λ r. ⌜ r .lesson .end ≤ found .end + lineOctets ⌝ }
 {
     let end = found.end;
     let state = found.state;
-    let outcome = framed(state, call, &mut recording[end..end + 160]);
+    let outcome = framed(state, call, &mut recording[end..end + buffers::LINE]);
     let answer = outcome.answer;
     let next = outcome.state;
     let lesson = Lesson {
@@ -169,8 +170,8 @@ fn tell(found: Sender, call: Call, answer: Answer, line: &[u8]) {
 
 // One call, made and told.
 fn step(recording: &mut [u8], found: Lesson, mute: bool, code: u8) -> Lesson
-    requires { ⌜ found .end + 160 ≤ length (now recording) ⌝ }
-    ensures { λ r. ⌜ r .end ≤ found .end + 160 ⌝ }
+    requires { ⌜ found .end + lineOctets ≤ length (now recording) ⌝ }
+    ensures { λ r. ⌜ r .end ≤ found .end + lineOctets ⌝ }
 {
     let end = found.end;
     let state = found.state;
@@ -178,7 +179,7 @@ fn step(recording: &mut [u8], found: Lesson, mute: bool, code: u8) -> Lesson
     let after = recorded(recording, found, call);
     let answer = after.answer;
     let lesson = after.lesson;
-    tell(state, call, answer, &recording[end..end + 160]);
+    tell(state, call, answer, &recording[end..end + buffers::LINE]);
     lesson
 }
 
@@ -230,7 +231,7 @@ fn released(recording: &mut [u8], found: Lesson) -> Lesson
 // What the far end makes of the recording.
 fn listed(recording: &[u8]) {
     let mut listing = [0u8; 1024];
-    let end = lines::list(recording, &mut listing);
+    let end = scribe::list(recording, &mut listing);
     if end <= 1024 {
         text(&listing[..end]);
     }

@@ -45,7 +45,7 @@ field-nexts n k l h =
     rw (parts, nexts-append (k * n) (n + r) l, nexts-append n r (drop (k * n) l))
     (rw (length-nexts r (drop n (drop (k * n) l)), length-nexts n (drop (k * n) l)) at (part (nexts (k * n) l) ms rs))
 
-field-lt : (x n k : ℕ) → fieldOf x n k < 2 ^ n
+pub field-lt : (x n k : ℕ) → fieldOf x n k < 2 ^ n
 unfolding fieldOf
 field-lt x n k = mod-lt (x / 2 ^ ((7 - k) * n)) (pow-pos n)
 

@@ -7,14 +7,11 @@ use native.Mathlib.Nat.{zero-mul, zero-add, add-mul, mul-assoc, mul-comm, lt-of-
 use native.Mathlib.Omega.{arith}
 use lib.Arith.{digits-lt}
 use lib.Dec.{lit<}
-use lib.ListN.{drop}
 use lib.Pow.{pow-add, pow-mono}
 use Rattle.bits.specs.Bits.{number}
-use Rattle.bits.proofs.BitLaws.{number-bound}
 use Rattle.places.specs.Streams.{nexts}
-use Rattle.eights.specs.Eight.{eights, fieldOf, fieldsOf, raisedBy}
-use Rattle.places.proofs.StreamLaws.{length-nexts}
-use Rattle.eights.proofs.EightLaws.{field-nexts, field-small}
+use Rattle.eights.specs.Eight.{eights, fieldOf, spreadBy, fieldsOf, raisedBy}
+use Rattle.eights.proofs.EightLaws.{field-nexts, field-lt, field-small}
 
 -- ---- eight octets as one number
 more : (x y u : ℕ) → (x * 256 + y) * u ≡ x * u * 256 + y * u
@@ -74,11 +71,18 @@ pub lane-is : (n : ℕ) (l : List Bool) → eights (fieldOf (number (nexts (8 * 
 unfolding fieldsOf
 lane-is n l = eights-each (fieldOf (number (nexts (8 * n) l)) n) (fieldsOf n l) (λ k h. field-nexts n k l h)
 
-pub raised : (n up below : ℕ) (l : List Bool)
-    → eights (fieldsOf n l) * 2 ^ up + eights (λ k. below) ≡ raisedBy n up below l
-unfolding raisedBy
-raised n up below l =
-    ap (λ (x : ℕ). x + eights (λ k. below)) (eights-times (fieldsOf n l) (2 ^ up)) ∙ eights-plus (λ k. fieldsOf n l k * 2 ^ up) (λ k. below)
+-- the fields of a number, moved up, and what is below them added
+pub spread-up : (n up below x : ℕ) → eights (fieldOf x n) * 2 ^ up + eights (λ k. below) ≡ spreadBy n up below x
+unfolding spreadBy
+spread-up n up below x =
+    ap (λ (y : ℕ). y + eights (λ k. below)) (eights-times (fieldOf x n) (2 ^ up)) ∙ eights-plus (λ k. fieldOf x n k * 2 ^ up) (λ k. below)
+
+-- of the number that a stream begins with they are the fields of the stream
+pub spread-nexts : (n up below : ℕ) (l : List Bool) → spreadBy n up below (number (nexts (8 * n) l)) ≡ raisedBy n up below l
+unfolding spreadBy raisedBy fieldsOf
+spread-nexts n up below l =
+    eights-each (λ j. fieldOf (number (nexts (8 * n) l)) n j * 2 ^ up + below) (λ j. fieldsOf n l j * 2 ^ up + below)
+    (λ k h. ap (λ (x : ℕ). x * 2 ^ up + below) (field-nexts n k l h))
 
 pub raised-none : (n up below : ℕ) (l : List Bool) → n ≡ 0 → eights (λ k. below) ≡ raisedBy n up below l
 unfolding raisedBy fieldsOf nexts number
@@ -90,15 +94,14 @@ raised-none n up below l z = eights-each (λ k. below) (λ j. fieldsOf n l j * 2
 pub below-small : (up below : ℕ) → up ≤ 8 → below < 2 ^ up → below < 256
 below-small up below h hb = lt-of-lt-of-le hb (pow-mono {i = up} {j = 8} h)
 
-pub raised-lt : (n up below : ℕ) (l : List Bool) → n + up ≤ 8 → below < 2 ^ up → raisedBy n up below l < 2 ^ 64
-unfolding raisedBy fieldsOf
-raised-lt n up below l h hb = eights-lt (λ j. fieldsOf n l j * 2 ^ up + below) each
+pub spread-lt : (n up below x : ℕ) → n + up ≤ 8 → below < 2 ^ up → spreadBy n up below x < 2 ^ 64
+unfolding spreadBy
+spread-lt n up below x h hb = eights-lt (λ j. fieldOf x n j * 2 ^ up + below) each
   where
-    each : (j : ℕ) → fieldsOf n l j * 2 ^ up + below < 256
+    each : (j : ℕ) → fieldOf x n j * 2 ^ up + below < 256
     each j =
-        let field : fieldsOf n l j < 2 ^ n = rw length-nexts at (number-bound (nexts n (drop (j * n) l))) in
         let all : 2 ^ n * 2 ^ up ≤ 2 ^ 8 = rw (← pow-add 2 n up) (pow-mono {i = n + up} {j = 8} h) in
-        lt-of-lt-of-le (digits-lt field hb) all
+        lt-of-lt-of-le (digits-lt (field-lt x n j) hb) all
 
 pub fields-lt : (x n : ℕ) → n ≤ 8 → eights (fieldOf x n) < 2 ^ 64
 fields-lt x n h = eights-lt (fieldOf x n) (λ k. field-small x n k h)

@@ -17,6 +17,10 @@ fieldOf x n k = x / 2 ^ ((7 - k) * n) % 2 ^ n
 unfoldable pub eights : (ℕ → ℕ) → ℕ
 eights f = ((((((f 0 * 256 + f 1) * 256 + f 2) * 256 + f 3) * 256 + f 4) * 256 + f 5) * 256 + f 6) * 256 + f 7
 
+-- those of x, `up` bits up in eight octets, with the bits of `below` below each
+unfoldable pub spreadBy : ℕ → ℕ → ℕ → ℕ → ℕ
+spreadBy n up below x = eights (λ (j : ℕ). fieldOf x n j * 2 ^ up + below)
+
 -- field k of the eight that a stream begins with, each of n bits
 unfoldable pub fieldsOf : ℕ → List Bool → ℕ → ℕ
 fieldsOf n bits k = number (nexts n (drop (k * n) bits))

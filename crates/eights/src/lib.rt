@@ -6,7 +6,7 @@ ghost use lib.ListN.{length, getD, drop};
 ghost use lib.Seq.{paste};
 ghost use Rattle.bits.specs.Bits.{bitsOf, digit, number};
 ghost use Rattle.places.specs.Streams.{nexts};
-ghost use Rattle.eights.specs.Eight.{partedBy, eights, ownAt, endedBy, fieldOf, fieldsOf, raisedBy, octetsIn, allOctets};
+ghost use Rattle.eights.specs.Eight.{partedBy, eights, ownAt, endedBy, fieldOf, spreadBy, raisedBy, octetsIn, allOctets};
 
 // n octets of a buffer from octet i on, as one number: eight are read at once, and those past the n are let go. At the buffer's end there may
 // be fewer.
@@ -40,14 +40,6 @@ fn spread(x: usize, n: usize) -> usize
     parted(four, ((1 << n) - 1) * 0x1_0001_0001_0001, 8 - n)
 }
 
-// Eight fields of n bits each, from octet i of a buffer on, as the low bits of eight octets.
-fn lane(buffer: &[u8], i: usize, n: usize) -> usize
-    requires { ⌜ (0 < n) × (n ≤ 8) × (i + n ≤ length (now buffer)) ⌝ }
-    ensures { λ r. ⌜ r ≡ eights (fieldsOf n (drop (8 * i) (bitsOf (now (buffer .entry))))) ⌝ }
-{
-    spread(octets_at(buffer, i, n), n)
-}
-
 // A number in each of eight octets.
 fn alike(octet: usize) -> usize
     requires { ⌜ octet < 256 ⌝ }
@@ -66,6 +58,68 @@ fn fill_eights(lanes: &mut [usize], from: usize, to: usize, word: usize)
     }
 }
 
+// Eights `from` to `to` of a frame's ten are set to the octets of a buffer from octet i on, n octets each. The eights before are as they were.
+fn load_eights(lanes: &mut [usize], from: usize, to: usize, buffer: &[u8], i: usize, n: usize)
+    requires { ⌜ (length (now lanes) ≡ 10) × (from ≤ to) × (to ≤ 10) × (0 < n) × (n ≤ 8) ⌝ }
+    requires { ⌜ i + (to - from) * n ≤ length (now buffer) ⌝ }
+    ensures { λ _. ⌜ ((k : ℕ) → k < from → getD (now (lanes .exit)) k 0 ≡ getD (now (lanes .entry)) k 0) × ((k : ℕ) → from ≤ k → k < to → getD (now (lanes .exit)) k 0 ≡ number (nexts (8 * n) (drop (8 * (i + (k - from) * n)) (bitsOf (now (buffer .entry)))))) ⌝ }
+{
+    for k in from..to {
+        lanes[k] = octets_at(buffer, i + (k - from) * n, n);
+    }
+}
+
+// Eights `from` to `to` of a frame's ten are spread: of the n octets of each, eight fields of n bits, `up` bits up in their octets, and below
+// them the bits of `below` in each. The eights before are as they were. The octets are all loaded before, so that several eights are spread at
+// once.
+fn spread_eights(lanes: &mut [usize], from: usize, to: usize, n: usize, up: usize, below: usize)
+    requires { ⌜ (length (now lanes) ≡ 10) × (from ≤ to) × (to ≤ 10) × (n + up ≤ 8) × (below < 2 ^ up) ⌝ }
+    requires { ⌜ ((k : ℕ) → from ≤ k → k < to → getD (now lanes) k 0 < 2 ^ (8 * n)) ⌝ }
+    ensures { λ _. ⌜ ((k : ℕ) → k < from → getD (now (lanes .exit)) k 0 ≡ getD (now (lanes .entry)) k 0) × ((k : ℕ) → from ≤ k → k < to → getD (now (lanes .exit)) k 0 ≡ spreadBy n up below (getD (now (lanes .entry)) k 0)) ⌝ }
+{
+    let same = alike(below);
+    for k in from..to {
+        lanes[k] = (spread(lanes[k], n) << up) + same;
+    }
+}
+
+// The same, where n is one to eight. Each width has an arm, so that its masks and shifts are compiled as constants.
+fn spread_by_width(lanes: &mut [usize], from: usize, to: usize, n: usize, up: usize, below: usize)
+    requires { ⌜ (length (now lanes) ≡ 10) × (from ≤ to) × (to ≤ 10) × (0 < n) × (n + up ≤ 8) × (below < 2 ^ up) ⌝ }
+    requires { ⌜ ((k : ℕ) → from ≤ k → k < to → getD (now lanes) k 0 < 2 ^ (8 * n)) ⌝ }
+    ensures { λ _. ⌜ ((k : ℕ) → k < from → getD (now (lanes .exit)) k 0 ≡ getD (now (lanes .entry)) k 0) × ((k : ℕ) → from ≤ k → k < to → getD (now (lanes .exit)) k 0 ≡ spreadBy n up below (getD (now (lanes .entry)) k 0)) ⌝ }
+{
+    if n == 6 {
+        spread_eights(lanes, from, to, 6, up, below);
+        return;
+    }
+    if n == 1 {
+        spread_eights(lanes, from, to, 1, up, below);
+        return;
+    }
+    if n == 2 {
+        spread_eights(lanes, from, to, 2, up, below);
+        return;
+    }
+    if n == 3 {
+        spread_eights(lanes, from, to, 3, up, below);
+        return;
+    }
+    if n == 4 {
+        spread_eights(lanes, from, to, 4, up, below);
+        return;
+    }
+    if n == 5 {
+        spread_eights(lanes, from, to, 5, up, below);
+        return;
+    }
+    if n == 7 {
+        spread_eights(lanes, from, to, 7, up, below);
+        return;
+    }
+    spread_eights(lanes, from, to, 8, up, below);
+}
+
 // The same as `lay`, where there are fields.
 fn lay_fields(
     lanes: &mut [usize],
@@ -81,10 +135,8 @@ fn lay_fields(
     requires { ⌜ i + (to - from) * n ≤ length (now buffer) ⌝ }
     ensures { λ _. ⌜ ((k : ℕ) → k < from → getD (now (lanes .exit)) k 0 ≡ getD (now (lanes .entry)) k 0) × ((k : ℕ) → from ≤ k → k < to → getD (now (lanes .exit)) k 0 ≡ raisedBy n up below (drop (8 * (i + (k - from) * n)) (bitsOf (now (buffer .entry))))) ⌝ }
 {
-    let same = alike(below);
-    for k in from..to {
-        lanes[k] = (lane(buffer, i + (k - from) * n, n) << up) + same;
-    }
+    load_eights(lanes, from, to, buffer, i, n);
+    spread_by_width(lanes, from, to, n, up, below);
 }
 
 // Eights `from` to `to` of a frame's ten: fields of n bits, from octet i of a buffer on, `up` bits up in their octets, and below them the
@@ -119,21 +171,18 @@ fn ones_above(n: usize, up: usize) -> usize
 }
 
 // The ten eights of a frame: fields of w bits, from octet i of a buffer on, at the top of their octets, and below them ones. The last c + 1
-// bits of each octet are zeros.
+// bits of each octet are zeros. It calls `lay_fields` itself, not `lay`: with two callers `lay_fields` is compiled apart from them, and where
+// there are no fields a loop alone is left.
 pub fn lay_top(lanes: &mut [usize], w: usize, c: usize, buffer: &[u8], i: usize)
     requires { ⌜ (length (now lanes) ≡ 10) × (w + c ≤ 7) × (i + 10 * w ≤ length (now buffer)) ⌝ }
     ensures { λ _. ⌜ ((k : ℕ) → k < 10 → getD (now (lanes .exit)) k 0 ≡ raisedBy w (8 - w) ((2 ^ (7 - (w + c)) - 1) * 2 ^ (c + 1)) (drop (8 * (i + k * w)) (bitsOf (now (buffer .entry))))) ⌝ }
 {
-    lay(
-        lanes,
-        0,
-        10,
-        buffer,
-        i,
-        w,
-        8 - w,
-        ones_above(7 - (w + c), c + 1),
-    );
+    let below = ones_above(7 - (w + c), c + 1);
+    if w == 0 {
+        fill_eights(lanes, 0, 10, alike(below));
+        return;
+    }
+    lay_fields(lanes, 0, 10, buffer, i, w, 8 - w, below);
 }
 
 // Bit `at` of a buffer.
@@ -146,7 +195,7 @@ fn bit_at(buffer: &[u8], at: usize) -> usize
 
 // The last bit of octet o + 1, where octets `first` to `last` have the bits of a buffer from bit d on: the next of them, or 1.
 fn own_bit(buffer: &[u8], d: usize, first: usize, last: usize, o: usize) -> usize
-    requires { ⌜ (o < 80) × (d ≤ 624) × (length (now buffer) ≡ 156) ⌝ }
+    requires { ⌜ (o < 80) × (d < 2 ^ 16) × (d + 80 < 8 * length (now buffer)) ⌝ }
     ensures { λ r. ⌜ r ≡ ownAt first last (drop d (bitsOf (now (buffer .entry)))) o ⌝ }
 {
     if o + 1 < first {
@@ -160,7 +209,7 @@ fn own_bit(buffer: &[u8], d: usize, first: usize, last: usize, o: usize) -> usiz
 
 // Those of the eight octets from o + 1 on, one by one.
 fn cut_eight(buffer: &[u8], d: usize, first: usize, last: usize, o: usize) -> usize
-    requires { ⌜ (o + 8 ≤ 80) × (d ≤ 624) × (length (now buffer) ≡ 156) ⌝ }
+    requires { ⌜ (o + 8 ≤ 80) × (d < 2 ^ 16) × (d + 80 < 8 * length (now buffer)) ⌝ }
     ensures { λ r. ⌜ r ≡ eights (λ j. ownAt first last (drop d (bitsOf (now (buffer .entry)))) (o + j)) ⌝ }
 {
     let mut eight = 0;
@@ -181,7 +230,7 @@ pub fn cut(
     first: usize,
     last: usize,
 )
-    requires { ⌜ (length (now lanes) ≡ 10) × (a ≤ b) × (b ≤ 10) × (d ≤ 624) × (length (now buffer) ≡ 156) ⌝ }
+    requires { ⌜ (length (now lanes) ≡ 10) × (a ≤ b) × (b ≤ 10) × (d < 2 ^ 16) × (d + 80 < 8 * length (now buffer)) ⌝ }
     ensures { λ _. ⌜ ((k : ℕ) → k < a → getD (now (lanes .exit)) k 0 ≡ getD (now (lanes .entry)) k 0) × ((k : ℕ) → a ≤ k → k < b → getD (now (lanes .exit)) k 0 ≡ eights (λ j. ownAt first last (drop d (bitsOf (now (buffer .entry)))) (8 * k + j))) ⌝ }
 {
     for k in a..b {

@@ -16,8 +16,9 @@ use Rattle.modes.specs.declared.Owner.{Owner}
 use Rattle.modes.specs.declared.Owner.the-variants.{Service, Voice, Lsd, Nobody}
 use Rattle.places.specs.Streams.{count, fill}
 use Rattle.service.specs.Service.{serviceRows}
-use Rattle.places.specs.Places.{rows, places}
-use Rattle.buffers.specs.Lengths.{fitting}
+use Rattle.places.specs.Places.{ownersTo, places}
+use Rattle.buffers.specs.Buffers.{Buffers, lengths}
+use Rattle.buffers.specs.Lengths.{lineOctets, fitting}
 use Rattle.frame.specs.Block.{serviceBits, sources, blockOf, lineAfter}
 use Rattle.places.specs.Layout.{layoutOf, rowsBy}
 use Rattle.frame.specs.declared.Header.{Header}
@@ -57,50 +58,50 @@ service-is h rows i j word even odd er ei ej ew ee eo =
     ∙ sym (append-assoc (getD all (evenFrame (h .block) .0) [] ++ take 8 line) (getD all (oddFrame (h .block) .0) []) (drop 8 line))
 
 -- ---- the block by its layout
-pub block-is : (m : Mode) (h : Header) (mute : Bool) (voice lsd : List ℕ)
-    → octets 160 (fill (rowsBy (layoutOf m) 80 ++ rowsBy (layoutOf m) 80) (sources h mute voice lsd)) ≡ blockOf m h mute voice lsd
+pub block-is : (m : Mode) (h : Header) (mute : Bool) (b : Buffers)
+    → octets lineOctets (fill (rowsBy (layoutOf m) 80 ++ rowsBy (layoutOf m) 80) (sources h mute b)) ≡ blockOf m h mute b
 unfolding blockOf places
-block-is m h mute voice lsd = ap (λ (ps : List Owner). octets 160 (fill (ps ++ ps) (sources h mute voice lsd))) (sym (rows-are m 80))
+block-is m h mute b = ap (λ (ps : List Owner). octets lineOctets (fill (ps ++ ps) (sources h mute b))) (sym (rows-are m 80))
 
 -- ---- what a call tells, by whether its lengths fit
-module _ (m : Mode) (h : Header) (mute : Bool) (voice lsd line : List ℕ) where
+module _ (m : Mode) (h : Header) (mute : Bool) (b : Buffers) (line : List ℕ) where
   -- what the contract of `write_block` says
   abbrev pub Told : Bool → List ℕ → Type 0
-  Told r l = (r ≡ fitting (length line) (length voice) (length lsd)) × (l ≡ lineAfter m h mute voice lsd line)
+  Told r l = (r ≡ fitting (length line) (lengths b)) × (l ≡ lineAfter m h mute b line)
 
-  pub told : (b : Bool) → fitting (length line) (length voice) (length lsd) ≡ b → Told b (cond b (blockOf m h mute voice lsd) line)
+  pub told : (fit : Bool) → fitting (length line) (lengths b) ≡ fit → Told fit (cond fit (blockOf m h mute b) line)
   unfolding lineAfter
-  told b e = (sym e, ap (λ (t : Bool). cond t (blockOf m h mute voice lsd) line) (sym e))
+  told fit e = (sym e, ap (λ (t : Bool). cond t (blockOf m h mute b) line) (sym e))
 
   -- any two outcomes that it allows are equal
   pub write-block-settled : (r q : Bool) (l k : List ℕ) → Told r l → Told q k → (r ≡ q) × (l ≡ k)
   write-block-settled r q l k x y = (settled (x .0) (y .0), settled (x .1) (y .1))
 
 -- where the lengths fit, the line holds the block
-pub written-block : (m : Mode) (h : Header) (mute : Bool) (voice lsd line : List ℕ) → fitting (length line) (length voice) (length lsd) ≡ true
-    → lineAfter m h mute voice lsd line ≡ blockOf m h mute voice lsd
+pub written-block : (m : Mode) (h : Header) (mute : Bool) (b : Buffers) (line : List ℕ) → fitting (length line) (lengths b) ≡ true
+    → lineAfter m h mute b line ≡ blockOf m h mute b
 unfolding lineAfter
-written-block m h mute voice lsd line e = rw e
+written-block m h mute b line e = rw e
 
 -- ---- silence: with mute set, or with no audio in force, a block does not depend on the voice
-pub silent-muted : (m : Mode) (h : Header) (voice other lsd : List ℕ) → blockOf m h true voice lsd ≡ blockOf m h true other lsd
+pub silent-muted : (m : Mode) (h : Header) (b other : Buffers) → b .lsd ≡ other .lsd → blockOf m h true b ≡ blockOf m h true other
 unfolding blockOf
-silent-muted m h voice other lsd = refl
+silent-muted m h b other e = rw e
 
 no-voice-places : (m : Mode) → (layoutOf m) .width ≡ 0 → count Voice (places m ++ places m) ≡ 0
 unfolding places
 no-voice-places m e =
-    let none : count Voice (rows m 80) ≡ 0 = ap (count Voice) (rows-are m 80) ∙ count-voice (layoutOf m) 80 ∙ ap (λ (w : ℕ). 80 * w) e in
-    count-append Voice (rows m 80) (rows m 80) ∙ ap₂ _+_ none none
+    let none : count Voice (ownersTo m 80) ≡ 0 = ap (count Voice) (rows-are m 80) ∙ count-voice (layoutOf m) 80 ∙ ap (λ (w : ℕ). 80 * w) e in
+    count-append Voice (ownersTo m 80) (ownersTo m 80) ∙ ap₂ _+_ none none
 
-pub silent-off : (m : Mode) (h : Header) (mute : Bool) (voice other lsd : List ℕ) → (layoutOf m) .width ≡ 0
-    → blockOf m h mute voice lsd ≡ blockOf m h mute other lsd
+pub silent-off : (m : Mode) (h : Header) (mute : Bool) (b other : Buffers) → (layoutOf m) .width ≡ 0 → b .lsd ≡ other .lsd
+    → blockOf m h mute b ≡ blockOf m h mute other
 unfolding blockOf
-silent-off m h mute voice other lsd e =
-    ap (octets 160) (fill-agree (places m ++ places m) (sources h mute voice lsd) (sources h mute other lsd) agree)
+silent-off m h mute b other none e =
+    ap (octets lineOctets) (fill-agree (places m ++ places m) (sources h mute b) (sources h mute other) agree)
   where
-    agree : (o : Owner) (k : ℕ) → k < count o (places m ++ places m) → getD (sources h mute voice lsd o) k true ≡ getD (sources h mute other lsd o) k true
+    agree : (o : Owner) (k : ℕ) → k < count o (places m ++ places m) → getD (sources h mute b o) k true ≡ getD (sources h mute other o) k true
     agree Service k l = refl
-    agree Voice k l = absurd (omega (arith, no-voice-places m e))
-    agree Lsd k l = refl
+    agree Voice k l = absurd (omega (arith, no-voice-places m none))
+    agree Lsd k l = rw e
     agree Nobody k l = refl

@@ -16,7 +16,7 @@ use Rattle.bits.proofs.BitLaws.{number-append, number-bound}
 use Rattle.modes.specs.declared.Owner.{Owner}
 use Rattle.modes.specs.declared.Owner.the-variants.{Service, Voice, Lsd, Nobody}
 use Rattle.places.specs.Streams.{Streams, same, count, rest, fill, nexts}
-use Rattle.frame.specs.Block.{streams}
+use Rattle.frame.specs.Block.{byOwner}
 use Rattle.places.specs.Layout.{columnsBy, channelBy, rowBy, rowsBy, sc, Apart}
 use Rattle.places.specs.declared.Layout.{Layout}
 use Rattle.places.proofs.StreamLaws.{fill-append, fill-all, rest-at, rest-rest, count-append, count-all, count-none, length-fill, length-nexts}
@@ -87,14 +87,14 @@ before-lsd p o h = simp (count-append, count-lsd p o h, count-all, count-none Ls
 
 -- it is a service bit, the next data bit, or 1
 pub channel-next : (p : Layout) (o : ℕ) (service voice lsd : List Bool) → Apart p
-    → getD (rest (rowsBy p o ++ columnsBy p) (streams service voice lsd) (channelBy p (o + 1))) 0 true
-    ≡ getD (streams (drop o service) [] (drop (o * p .columns + sc p o + p .columns) lsd) (channelBy p (o + 1))) 0 true
+    → getD (rest (rowsBy p o ++ columnsBy p) (byOwner service voice lsd) (channelBy p (o + 1))) 0 true
+    ≡ getD (byOwner (drop o service) [] (drop (o * p .columns + sc p o + p .columns) lsd) (channelBy p (o + 1))) 0 true
 unfolding channelBy
 channel-next p o service voice lsd h = go (leb (o + 1) 16) (leb (p .first) (o + 1)) (leb (o + 1) (p .last)) refl
   where
     go : (a b c : Bool) → leb (o + 1) 16 ≡ a
-        → getD (rest (rowsBy p o ++ columnsBy p) (streams service voice lsd) (cond a Service (cond b (cond c Lsd Nobody) Nobody))) 0 true
-        ≡ getD (streams (drop o service) [] (drop (o * p .columns + sc p o + p .columns) lsd) (cond a Service (cond b (cond c Lsd Nobody) Nobody))) 0 true
+        → getD (rest (rowsBy p o ++ columnsBy p) (byOwner service voice lsd) (cond a Service (cond b (cond c Lsd Nobody) Nobody))) 0 true
+        ≡ getD (byOwner (drop o service) [] (drop (o * p .columns + sc p o + p .columns) lsd) (cond a Service (cond b (cond c Lsd Nobody) Nobody))) 0 true
     go true b c e =
         let l : o + 1 ≤ 16 = leb-true (o + 1) 16 e in
         let k : min o 16 ≡ o = omega arith in
@@ -108,13 +108,13 @@ join-tail : (x c low last : ℕ) → (x * 2 ^ c + low) * 2 + last ≡ x * 2 ^ (c
 join-tail x c low last = rw (add-one, pow-suc, ← mul-assoc x (2 ^ c) 2) (omega arith)
 
 pub octet-parts : (p : Layout) (o : ℕ) (service voice lsd : List Bool) → Apart p
-    → number (fill (rowBy p (o + 1)) (rest (rowsBy p o) (streams service voice lsd)))
+    → number (fill (rowBy p (o + 1)) (rest (rowsBy p o) (byOwner service voice lsd)))
     ≡ (number (nexts (p .width) (drop (o * p .width) voice)) * 2 ^ (7 - (p .width + p .columns))
     + (2 ^ (7 - (p .width + p .columns)) - 1)) * 2 ^ (p .columns + 1)
     + (number (nexts (p .columns) (drop (o * p .columns + sc p o) lsd)) * 2
-    + digit (getD (streams (drop o service) [] (drop (o * p .columns + sc p o + p .columns) lsd) (channelBy p (o + 1))) 0 true))
+    + digit (getD (byOwner (drop o service) [] (drop (o * p .columns + sc p o + p .columns) lsd) (channelBy p (o + 1))) 0 true))
 octet-parts p o service voice lsd h =
-    octet-at p o (streams service voice lsd) refl h
+    octet-at p o (byOwner service voice lsd) refl h
     ∙ rw (channel-next p o service voice lsd h) (join-tail _ (p .columns) _ _)
 
 -- which owner that is
@@ -128,21 +128,21 @@ channel-lsd p o h k l = rw (lt-leb o 16 h, le-leb (p .first) o k, le-leb o (p .l
 
 -- past the service bits these do not count; and where they are left out and data has no SC octet, the bit is 1
 pub channel-unserved : (p : Layout) (o : ℕ) (bs cs ds : List Bool) → 16 ≤ o
-    → getD (streams cs [] ds (channelBy p (o + 1))) 0 true ≡ getD (streams bs [] ds (channelBy p (o + 1))) 0 true
+    → getD (byOwner cs [] ds (channelBy p (o + 1))) 0 true ≡ getD (byOwner bs [] ds (channelBy p (o + 1))) 0 true
 unfolding channelBy
 channel-unserved p o bs cs ds h = rw (lt-leb (o + 1) 16 (omega arith)) (go (leb (p .first) (o + 1)) (leb (o + 1) (p .last)))
   where
-    go : (b c : Bool) → getD (streams cs [] ds (cond b (cond c Lsd Nobody) Nobody)) 0 true ≡ getD (streams bs [] ds (cond b (cond c Lsd Nobody) Nobody)) 0 true
+    go : (b c : Bool) → getD (byOwner cs [] ds (cond b (cond c Lsd Nobody) Nobody)) 0 true ≡ getD (byOwner bs [] ds (cond b (cond c Lsd Nobody) Nobody)) 0 true
     go true true = refl
     go true false = refl
     go false c = refl
 
-pub channel-free : (p : Layout) (o : ℕ) (ds : List Bool) → sc p (o + 1) ≡ sc p o → getD (streams (drop o []) [] ds (channelBy p (o + 1))) 0 true ≡ true
+pub channel-free : (p : Layout) (o : ℕ) (ds : List Bool) → sc p (o + 1) ≡ sc p o → getD (byOwner (drop o []) [] ds (channelBy p (o + 1))) 0 true ≡ true
 unfolding channelBy
 channel-free p o ds e = go (leb (o + 1) 16) (leb (p .first) (o + 1)) (leb (o + 1) (p .last)) refl refl
   where
     go : (a b c : Bool) → leb (p .first) (o + 1) ≡ b → leb (o + 1) (p .last) ≡ c
-        → getD (streams (drop o []) [] ds (cond a Service (cond b (cond c Lsd Nobody) Nobody))) 0 true ≡ true
+        → getD (byOwner (drop o []) [] ds (cond a Service (cond b (cond c Lsd Nobody) Nobody))) 0 true ≡ true
     go true b c eb ec = rw (drop-nil o)
     go false true true eb ec = absurd (omega (arith, e, leb-true (p .first) (o + 1) eb, leb-true (o + 1) (p .last) ec))
     go false true false eb ec = refl

@@ -17,7 +17,7 @@ use Rattle.bits.proofs.PackLaws.{length-octets}
 use Rattle.bits.proofs.Table.{entry}
 use Rattle.modes.specs.declared.Owner.the-variants.{Lsd, Nobody}
 use Rattle.places.specs.Streams.{Streams, nexts, fill, rest}
-use Rattle.frame.specs.Block.{streams}
+use Rattle.frame.specs.Block.{byOwner}
 use Rattle.places.specs.Layout.{channelBy, rowBy, rowsBy, sc, Apart}
 use Rattle.frame.specs.Frame.{frameBy}
 use Rattle.eights.specs.Eight.{eights, ownAt, endedBy, fieldOf, fieldsOf, raisedBy, octetIn, octetsIn, allOctets}
@@ -113,7 +113,7 @@ tail-bit p bits o z h =
     rw (z, lt-leb (o + 1) 16 (omega arith), zero-mul, zero-add) (go (leb (p .first) (o + 1)) (leb (o + 1) (p .last)) refl refl)
   where
     go : (a b : Bool) → leb (p .first) (o + 1) ≡ a → leb (o + 1) (p .last) ≡ b
-        → digit (cond (a && b) (getD bits (o + 1 - p .first) true) true) ≡ digit (getD (streams (drop o []) [] (drop (o * 0 + sc p o + 0) bits) (cond a (cond b Lsd Nobody) Nobody)) 0 true)
+        → digit (cond (a && b) (getD bits (o + 1 - p .first) true) true) ≡ digit (getD (byOwner (drop o []) [] (drop (o * 0 + sc p o + 0) bits) (cond a (cond b Lsd Nobody) Nobody)) 0 true)
     go true true ea eb =
         let at : o * 0 + sc p o + 0 ≡ o + 1 - p .first = omega (arith, leb-true (p .first) (o + 1) ea, leb-true (o + 1) (p .last) eb) in
         let none : o + 1 - p .first + 0 ≡ o + 1 - p .first = omega arith in
@@ -221,11 +221,11 @@ abbrev pub octetAt : Layout → Streams → ℕ → ℕ
 octetAt p s o = number (fill (rowBy p (o + 1)) (rest (rowsBy p o) s))
 
 pub parts-are : (p : Layout) (bs vs ds : List Bool) (k : ℕ) → Apart p
-    → wordAt (headAt p vs) k + wordAt (tailAt p bs ds) k ≡ wordAt (octetAt p (streams bs vs ds)) k
+    → wordAt (headAt p vs) k + wordAt (tailAt p bs ds) k ≡ wordAt (octetAt p (byOwner bs vs ds)) k
 unfolding wordAt headAt tailAt
 parts-are p bs vs ds k a =
     eights-plus (λ j. headAt p vs (8 * k + j)) (λ j. tailAt p bs ds (8 * k + j))
-    ∙ eights-each (λ j. headAt p vs (8 * k + j) + tailAt p bs ds (8 * k + j)) (λ j. octetAt p (streams bs vs ds) (8 * k + j))
+    ∙ eights-each (λ j. headAt p vs (8 * k + j) + tailAt p bs ds (8 * k + j)) (λ j. octetAt p (byOwner bs vs ds) (8 * k + j))
     (λ j l. sym (octet-parts p (8 * k + j) bs vs ds a))
 
 pub word-lt : (p : Layout) (s : Streams) (k : ℕ) → p .width + p .columns ≤ 7 → wordAt (octetAt p s) k < 2 ^ 64

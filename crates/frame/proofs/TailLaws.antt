@@ -14,7 +14,7 @@ use Rattle.bits.specs.Bits.{lowBits, number}
 use Rattle.bits.proofs.BitLaws.{length-lowBits, lowBits-append, number-fits, number-lowBits}
 use Rattle.places.specs.Streams.{nexts}
 use Rattle.places.proofs.StreamLaws.{nexts-take}
-use Rattle.frame.specs.Block.{streams}
+use Rattle.frame.specs.Block.{byOwner}
 use Rattle.places.specs.Layout.{inEights, sc, Apart}
 use Rattle.eights.specs.Eight.{eights, endedBy, fieldOf, fieldsOf, raisedBy}
 use Rattle.frame.specs.Parts.{wordAt, tailAt}
@@ -122,7 +122,7 @@ service-second s =
 
 -- ---- the service bits in the first two eights, and how large the tails are
 tails-lt : (p : Layout) (bs ds : List Bool) (k : ℕ) → Apart p → wordAt (tailAt p bs ds) k < 2 ^ 64
-tails-lt p bs ds k a = omega (arith, parts-are p bs [] ds k a, word-lt p (streams bs [] ds) k (a .within))
+tails-lt p bs ds k a = omega (arith, parts-are p bs [] ds k a, word-lt p (byOwner bs [] ds) k (a .within))
 
 -- what `ended` asks of an eight and an octet, and what it makes of them
 abbrev pub Served : Layout → ℕ → List Bool → ℕ → ℕ → ℕ → Type 0

@@ -10,12 +10,13 @@ use native.Mathlib.Omega.{arith}
 use borrow.Rule.Slice.PartMut.{putMid}
 use lib.ListN.{length, getD, List·getD-append, drop, set, length-set, length-append, drop-of-length-le}
 use lib.Seq.{getD-set-same, getD-set-other, drop-nil, drop-at, take-at, getD-append-add}
+use Rattle.buffers.specs.Lengths.{lineOctets}
 use Rattle.bits.specs.Bits.{number, octets}
 use Rattle.bits.proofs.PackLaws.{length-octets, octets-append, octets-one}
 use Rattle.modes.specs.declared.Owner.{Owner}
 use Rattle.modes.specs.declared.Owner.the-variants.{Service, Voice, Lsd, Nobody}
 use Rattle.places.specs.Streams.{Streams, count, rest, fill}
-use Rattle.frame.specs.Block.{streams}
+use Rattle.frame.specs.Block.{byOwner}
 use Rattle.places.specs.Layout.{rowBy, rowsBy, sc, Apart}
 use Rattle.frame.specs.Frame.{frameBy}
 use Rattle.places.specs.declared.Layout.{Layout}
@@ -46,18 +47,18 @@ second-half es rs os he hr =
 
 -- a block is two frames, of any streams
 pub two-frames : (p : Layout) (s : Streams) → p .width + p .columns ≤ 7
-    → octets 160 (fill (rowsBy p 80 ++ rowsBy p 80) s) ≡ frameBy p s ++ frameBy p (rest (rowsBy p 80) s)
+    → octets lineOctets (fill (rowsBy p 80 ++ rowsBy p 80) s) ≡ frameBy p s ++ frameBy p (rest (rowsBy p 80) s)
 unfolding frameBy
 two-frames p s h =
-    ap (octets 160) (fill-append (rowsBy p 80) (rowsBy p 80) s)
+    ap (octets lineOctets) (fill-append (rowsBy p 80) (rowsBy p 80) s)
     ∙ octets-append 80 80 (fill (rowsBy p 80) s) (fill (rowsBy p 80) (rest (rowsBy p 80) s)) (length-fill (rowsBy p 80) s ∙ length-rows p 80 h)
 
 -- the even frame sees the first sixteen service bits alone
-pub even-half : (p : Layout) (es os vs ds : List Bool) → length es ≡ 16 → frameBy p (streams (es ++ os) vs ds) ≡ frameBy p (streams es vs ds)
+pub even-half : (p : Layout) (es os vs ds : List Bool) → length es ≡ 16 → frameBy p (byOwner (es ++ os) vs ds) ≡ frameBy p (byOwner es vs ds)
 unfolding frameBy
-even-half p es os vs ds he = ap (octets 80) (fill-agree (rowsBy p 80) (streams (es ++ os) vs ds) (streams es vs ds) same-bits)
+even-half p es os vs ds he = ap (octets 80) (fill-agree (rowsBy p 80) (byOwner (es ++ os) vs ds) (byOwner es vs ds) same-bits)
   where
-    same-bits : (o : Owner) (k : ℕ) → k < count o (rowsBy p 80) → getD (streams (es ++ os) vs ds o) k true ≡ getD (streams es vs ds o) k true
+    same-bits : (o : Owner) (k : ℕ) → k < count o (rowsBy p 80) → getD (byOwner (es ++ os) vs ds o) k true ≡ getD (byOwner es vs ds o) k true
     same-bits Service k l = List·getD-append es os true k (rw he (rw count-service at l))
     same-bits Voice k l = refl
     same-bits Lsd k l = refl
@@ -65,21 +66,21 @@ even-half p es os vs ds he = ap (octets 80) (fill-agree (rowsBy p 80) (streams (
 
 -- and the odd one the rest of every stream
 pub rest-frame : (p : Layout) (bs vs ds : List Bool) → Apart p
-    → rest (rowsBy p 80) (streams bs vs ds) ≡ streams (drop 16 bs) (drop (80 * p .width) vs) (drop (80 * p .columns + sc p 80) ds)
+    → rest (rowsBy p 80) (byOwner bs vs ds) ≡ byOwner (drop 16 bs) (drop (80 * p .width) vs) (drop (80 * p .columns + sc p 80) ds)
 unfolding rest
 rest-frame p bs vs ds h = fun-ext at
   where
-    at : (o : Owner) → rest (rowsBy p 80) (streams bs vs ds) o ≡ streams (drop 16 bs) (drop (80 * p .width) vs) (drop (80 * p .columns + sc p 80) ds) o
+    at : (o : Owner) → rest (rowsBy p 80) (byOwner bs vs ds) o ≡ byOwner (drop 16 bs) (drop (80 * p .width) vs) (drop (80 * p .columns + sc p 80) ds) o
     at Service = rw (count-service p 80)
     at Voice = rw (count-voice p 80)
     at Lsd = rw (count-lsd p 80 h)
     at Nobody = drop-nil (count Nobody (rowsBy p 80))
 
 pub odd-half : (p : Layout) (es os vs ds : List Bool) → Apart p → length es ≡ 16
-    → rest (rowsBy p 80) (streams (es ++ os) vs ds) ≡ streams os (drop (80 * p .width) vs) (drop (80 * p .columns + sc p 80) ds)
+    → rest (rowsBy p 80) (byOwner (es ++ os) vs ds) ≡ byOwner os (drop (80 * p .width) vs) (drop (80 * p .columns + sc p 80) ds)
 odd-half p es os vs ds h he =
     rest-frame p (es ++ os) vs ds h
-    ∙ ap (λ (l : List Bool). streams l (drop (80 * p .width) vs) (drop (80 * p .columns + sc p 80) ds)) (drop-at es os 16 he)
+    ∙ ap (λ (l : List Bool). byOwner l (drop (80 * p .width) vs) (drop (80 * p .columns + sc p 80) ds)) (drop-at es os 16 he)
 
 -- ---- an octet of what was written
 pub octet-done : (p : Layout) (s : Streams) (n o : ℕ) → p .width + p .columns ≤ 7 → o < n

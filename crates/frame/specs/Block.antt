@@ -10,7 +10,8 @@ use Rattle.modes.specs.declared.Mode.{Mode}
 use Rattle.modes.specs.declared.Owner.the-variants.{Service, Voice, Lsd, Nobody}
 use Rattle.service.specs.Service.{serviceRows}
 use Rattle.places.specs.Places.{places}
-use Rattle.buffers.specs.Lengths.{fitting}
+use Rattle.buffers.specs.Buffers.{Buffers, lengths}
+use Rattle.buffers.specs.Lengths.{lineOctets, fitting}
 use Rattle.places.specs.Streams.{Streams, fill}
 use Rattle.frame.specs.declared.Header.{Header}
 
@@ -21,26 +22,25 @@ serviceBits h =
     let word = lineOrder (wordBits (h .code)) in
     getD rows (evenFrame (h .block) .0) [] ++ take 8 word ++ getD rows (oddFrame (h .block) .0) [] ++ drop 8 word
 
--- with mute set, voice has no bits to send, and so its places carry ones
+-- with mute set, voice has no bits to send, and so its places carry ones (DECISIONS F13)
 abbrev pub heard : Bool → List Bool → List Bool
 heard mute voice = cond mute [] voice
 
 -- the stream of each owner; nobody has no bits
-abbrev pub streams : List Bool → List Bool → List Bool → Streams
-streams service voice lsd Service = service
-streams service voice lsd Voice = voice
-streams service voice lsd Lsd = lsd
-streams service voice lsd Nobody = []
+abbrev pub byOwner : List Bool → List Bool → List Bool → Streams
+byOwner service voice lsd Service = service
+byOwner service voice lsd Voice = voice
+byOwner service voice lsd Lsd = lsd
+byOwner service voice lsd Nobody = []
 
 -- what a block is filled from
-abbrev pub sources : Header → Bool → List ℕ → List ℕ → Streams
-sources h mute voice lsd = streams (serviceBits h) (heard mute (bitsOf voice)) (bitsOf lsd)
+abbrev pub sources : Header → Bool → Buffers → Streams
+sources h mute b = byOwner (serviceBits h) (heard mute (bitsOf (b .voice))) (bitsOf (b .lsd))
 
--- a block's 160 octets: the streams go on from the even frame into the odd one
-unfoldable pub blockOf : Mode → Header → Bool → List ℕ → List ℕ → List ℕ
-blockOf m h mute voice lsd = octets 160 (fill (places m ++ places m) (sources h mute voice lsd))
+-- a block's octets: the streams go on from the even frame into the odd one
+unfoldable pub blockOf : Mode → Header → Bool → Buffers → List ℕ
+blockOf m h mute b = octets lineOctets (fill (places m ++ places m) (sources h mute b))
 
 -- what the line holds after a call: the block, or what it held where a length is wrong
-unfoldable pub lineAfter : Mode → Header → Bool → List ℕ → List ℕ → List ℕ → List ℕ
-lineAfter m h mute voice lsd line =
-    cond (fitting (length line) (length voice) (length lsd)) (blockOf m h mute voice lsd) line
+unfoldable pub lineAfter : Mode → Header → Bool → Buffers → List ℕ → List ℕ
+lineAfter m h mute b line = cond (fitting (length line) (lengths b)) (blockOf m h mute b) line

@@ -5,14 +5,15 @@ use mathlib.Core.List.{List}
 use Prim.Native.Nat.{ℕ, _%_, _≤_}
 use lib.ListN.{length, drop}
 use Rattle.bits.specs.Bits.{lowBits, bitsOf, octets}
+use Rattle.buffers.specs.Lengths.{streamOctets}
 use Rattle.places.specs.Streams.{Streams, fill}
 use Rattle.places.specs.Layout.{rowsBy, inEights, Apart}
 use Rattle.places.specs.declared.Layout.{Layout}
-use Rattle.frame.specs.Block.{heard, streams}
+use Rattle.frame.specs.Block.{heard, byOwner}
 
 -- what a frame is filled from: its sixteen service bits, voice from its bit v on, ones where it is muted, and data from its bit d on
 abbrev pub frameSources : ℕ → Bool → List ℕ → ℕ → List ℕ → ℕ → Streams
-frameSources service mute voice v lsd d = streams (lowBits 16 service) (drop v (heard mute (bitsOf voice))) (drop d (bitsOf lsd))
+frameSources service mute voice v lsd d = byOwner (lowBits 16 service) (drop v (heard mute (bitsOf voice))) (drop d (bitsOf lsd))
 
 unfoldable pub frameBy : Layout → Streams → List ℕ
 frameBy p s = octets 80 (fill (rowsBy p 80) s)
@@ -21,8 +22,8 @@ frameBy p s = octets 80 (fill (rowsBy p 80) s)
 -- SC octets are whole eights
 pub record Ready (p : Layout) (voice : List ℕ) (v : ℕ) (lsd : List ℕ) (d : ℕ) : Type 0 where
   pub apart : Apart p
-  pub spoken : length voice ≡ 140
-  pub given : length lsd ≡ 156
+  pub spoken : length voice ≡ streamOctets .voice
+  pub given : length lsd ≡ streamOctets .lsd
   pub from : v ≤ 560
   pub whole : v % 8 ≡ 0
   pub on : d ≤ 624

@@ -7,7 +7,7 @@ use lib.ListN.{getD, drop}
 use Rattle.bits.specs.Bits.{number, digit}
 use Rattle.places.specs.Streams.{nexts}
 use Rattle.eights.specs.Eight.{eights}
-use Rattle.frame.specs.Block.{streams}
+use Rattle.frame.specs.Block.{byOwner}
 use Rattle.places.specs.Layout.{channelBy, sc}
 use Rattle.places.specs.declared.Layout.{Layout}
 
@@ -25,4 +25,4 @@ unfoldable pub tailAt : Layout → List Bool → List Bool → ℕ → ℕ
 tailAt p service lsd o =
     let at = o * p .columns + sc p o in
     number (nexts (p .columns) (drop at lsd)) * 2
-    + digit (getD (streams (drop o service) [] (drop (at + p .columns) lsd) (channelBy p (o + 1))) 0 true)
+    + digit (getD (byOwner (drop o service) [] (drop (at + p .columns) lsd) (channelBy p (o + 1))) 0 true)

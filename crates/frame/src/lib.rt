@@ -6,8 +6,9 @@ ghost use Prim.Native.Nat.{ℕ, _+_, _-_, _*_, _/_, _%_, _<_, _≤_};
 ghost use lib.ListN.{length, getD, drop};
 ghost use Rattle.bits.specs.Bits.{odd, bitsOf, lowBits, octetBits, octets};
 ghost use Rattle.places.specs.Streams.{fill};
-ghost use Rattle.frame.specs.Block.{serviceBits, heard, streams, lineAfter};
-ghost use Rattle.buffers.specs.Lengths.{fitting};
+ghost use Rattle.frame.specs.Block.{serviceBits, heard, byOwner, lineAfter};
+ghost use Rattle.buffers.specs.Buffers.{each, lengths};
+ghost use Rattle.buffers.specs.Lengths.{lineOctets, streamOctets, fitting};
 ghost use Rattle.frame.specs.Parts.{wordAt, headAt, tailAt};
 ghost use Rattle.places.specs.Layout.{rowsBy, inEights, Apart};
 ghost use Rattle.frame.specs.Frame.{Ready, frameSources, frameBy};
@@ -27,7 +28,7 @@ pub struct Header {
 
 // Voice and nobody's ones in the ten eights of a frame, voice from its bit v on. Where it is muted there are ones alone.
 fn heads(lanes: &mut [usize], p: Layout, mute: bool, voice: &[u8], v: usize)
-    requires { ⌜ (length (now lanes) ≡ 10) × (p .width + p .columns ≤ 7) × (length (now voice) ≡ 140) × (v ≤ 560) × (v % 8 ≡ 0) ⌝ }
+    requires { ⌜ (length (now lanes) ≡ 10) × (p .width + p .columns ≤ 7) × (length (now voice) ≡ streamOctets .voice) × (v ≤ 560) × (v % 8 ≡ 0) ⌝ }
     ensures { λ _. ⌜ ((k : ℕ) → k < 10 → getD (now (lanes .exit)) k 0 ≡ wordAt (headAt p (drop v (heard mute (bitsOf (now (voice .entry)))))) k) ⌝ }
 {
     let c = p.columns as usize;
@@ -42,7 +43,7 @@ fn heads(lanes: &mut [usize], p: Layout, mute: bool, voice: &[u8], v: usize)
 fn own_eights(lanes: &mut [usize], a: usize, b: usize, p: Layout, lsd: &[u8], d: usize)
     requires { ⌜ (length (now lanes) ≡ 10) × (a ≡ (p .first - 1) / 8) × (b ≡ (p .last + 7) / 8) ⌝ }
     requires { ⌜ Apart p ⌝ }
-    requires { ⌜ (length (now lsd) ≡ 156) × (d ≤ 624) × (inEights p ≡ true → d % 8 ≡ 0) ⌝ }
+    requires { ⌜ (length (now lsd) ≡ streamOctets .lsd) × (d ≤ 624) × (inEights p ≡ true → d % 8 ≡ 0) ⌝ }
     ensures { λ _. ⌜ ((k : ℕ) → k < a → getD (now (lanes .exit)) k 0 ≡ getD (now (lanes .entry)) k 0) × ((k : ℕ) → a ≤ k → k < b → getD (now (lanes .exit)) k 0 ≡ wordAt (tailAt p [] (drop d (bitsOf (now (lsd .entry))))) k) ⌝ }
 {
     let c = p.columns as usize;
@@ -58,7 +59,7 @@ fn own_eights(lanes: &mut [usize], a: usize, b: usize, p: Layout, lsd: &[u8], d:
 fn data_eights(lanes: &mut [usize], p: Layout, lsd: &[u8], d: usize)
     requires { ⌜ length (now lanes) ≡ 10 ⌝ }
     requires { ⌜ Apart p ⌝ }
-    requires { ⌜ (length (now lsd) ≡ 156) × (d ≤ 624) × (inEights p ≡ true → d % 8 ≡ 0) ⌝ }
+    requires { ⌜ (length (now lsd) ≡ streamOctets .lsd) × (d ≤ 624) × (inEights p ≡ true → d % 8 ≡ 0) ⌝ }
     ensures { λ _. ⌜ ((k : ℕ) → k < 10 → getD (now (lanes .exit)) k 0 ≡ wordAt (tailAt p [] (drop d (bitsOf (now (lsd .entry))))) k) ⌝ }
 {
     let c = p.columns as usize;
@@ -78,7 +79,7 @@ fn data_eights(lanes: &mut [usize], p: Layout, lsd: &[u8], d: usize)
 fn tails(lanes: &mut [usize], p: Layout, service: u16, lsd: &[u8], d: usize)
     requires { ⌜ length (now lanes) ≡ 10 ⌝ }
     requires { ⌜ Apart p ⌝ }
-    requires { ⌜ (length (now lsd) ≡ 156) × (d ≤ 624) × (inEights p ≡ true → d % 8 ≡ 0) ⌝ }
+    requires { ⌜ (length (now lsd) ≡ streamOctets .lsd) × (d ≤ 624) × (inEights p ≡ true → d % 8 ≡ 0) ⌝ }
     ensures { λ _. ⌜ ((k : ℕ) → k < 10 → getD (now (lanes .exit)) k 0 ≡ wordAt (tailAt p (lowBits 16 service) (drop d (bitsOf (now (lsd .entry))))) k) ⌝ }
 {
     data_eights(lanes, p, lsd, d);
@@ -142,9 +143,9 @@ fn service_of(header: Header) -> Service
 
 // Both frames of a block: the odd half is filled apart from the even half, and goes on in voice and data where that ended.
 fn fill_block(line: &mut [u8], p: Layout, service: Service, mute: bool, voice: &[u8], lsd: &[u8])
-    requires { ⌜ length (now line) ≡ 160 ⌝ }
+    requires { ⌜ length (now line) ≡ lineOctets ⌝ }
     requires { ⌜ Ready p (now voice) 0 (now lsd) 0 ⌝ }
-    ensures { λ _. ⌜ now (line .exit) ≡ octets 160 (fill (rowsBy p 80 ++ rowsBy p 80) (streams (lowBits 16 (service .even) ++ lowBits 16 (service .odd)) (heard mute (bitsOf (now (voice .entry)))) (bitsOf (now (lsd .entry))))) ⌝ }
+    ensures { λ _. ⌜ now (line .exit) ≡ octets lineOctets (fill (rowsBy p 80 ++ rowsBy p 80) (byOwner (lowBits 16 (service .even) ++ lowBits 16 (service .odd)) (heard mute (bitsOf (now (voice .entry)))) (bitsOf (now (lsd .entry))))) ⌝ }
 {
     let w = p.width as usize;
     let c = p.columns as usize;
@@ -154,7 +155,7 @@ fn fill_block(line: &mut [u8], p: Layout, service: Service, mute: bool, voice: &
 }
 
 // Writes a block into a line of 160 octets, from 140 octets of voice and 156 of data. Where a length is wrong nothing is written,
-// and the answer is false.
+// and the answer is false (DECISIONS F11).
 pub fn write_block(
     line: &mut [u8],
     mode: Mode,
@@ -163,7 +164,8 @@ pub fn write_block(
     voice: &[u8],
     lsd: &[u8],
 ) -> bool
-    ensures { λ r. ⌜ (r ≡ fitting (length (now (line .entry))) (length (now (voice .entry))) (length (now (lsd .entry)))) × (now (line .exit) ≡ lineAfter mode header mute (now (voice .entry)) (now (lsd .entry)) (now (line .entry))) ⌝ }
+    ensures { λ r. ⌜ (r ≡ fitting (length (now (line .entry))) (lengths (each (now (voice .entry)) (now (lsd .entry)))))
+        × (now (line .exit) ≡ lineAfter mode header mute (each (now (voice .entry)) (now (lsd .entry))) (now (line .entry))) ⌝ }
 {
     if !buffers::lengths_fit(line.len(), voice.len(), lsd.len()) {
         return false;

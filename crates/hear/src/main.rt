@@ -17,7 +17,7 @@ fn tell(s: &[u8]) {
 fn tell_listing(recording: &[u8]) {
     // More than a listing of 409 blocks takes.
     let mut listing = [0u8; 16_384];
-    let end = lines::list(recording, &mut listing);
+    let end = scribe::list(recording, &mut listing);
     if end <= 16_384 {
         tell(&listing[..end]);
     }
@@ -67,8 +67,8 @@ fn walked(recording: &[u8], start: usize) -> bool {
         lost: false,
     };
     for turn in 0..recording.len() {
-        let mut voice = [0u8; 140];
-        let mut lsd = [0u8; 156];
+        let mut voice = [0u8; buffers::VOICE];
+        let mut lsd = [0u8; buffers::LSD];
         let reader = stepped.reader;
         let mode = reader.mode;
         stepped = walk::step_from(

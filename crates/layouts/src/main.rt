@@ -56,13 +56,13 @@ fn number_all(buffer: &mut [u8], k: usize) {
 
 // Bit k of the number of the stream's bit that octet `at` of a block carries in its bit `place`, 1 to 8.
 fn plane(mode: Mode, at: usize, place: usize, k: usize) -> bool {
-    let mut line = [0u8; 160];
-    let mut voice = [0u8; 140];
-    let mut lsd = [0u8; 156];
+    let mut line = [0u8; buffers::LINE];
+    let mut voice = [0u8; buffers::VOICE];
+    let mut lsd = [0u8; buffers::LSD];
     number_all(&mut voice, k);
     number_all(&mut lsd, k);
     frame::write_block(&mut line, mode, header(), false, &voice, &lsd);
-    bit(wide(line[at % 160]), 8 - place % 9)
+    bit(wide(line[at % buffers::LINE]), 8 - place % 9)
 }
 
 fn with_plane(mode: Mode, at: usize, place: usize, k: usize) -> u64 {
@@ -230,11 +230,11 @@ fn all_back(sent: &[u8], back: &[u8], n: usize, ones: bool) -> bool {
 
 // Whether voice and data come back out of a block of this mode, into buffers that held something else.
 fn comes_back(mode: Mode, mute: bool) -> bool {
-    let mut line = [0u8; 160];
-    let mut voice = [0u8; 140];
-    let mut lsd = [0u8; 156];
-    let mut voice_back = [85u8; 140];
-    let mut lsd_back = [85u8; 156];
+    let mut line = [0u8; buffers::LINE];
+    let mut voice = [0u8; buffers::VOICE];
+    let mut lsd = [0u8; buffers::LSD];
+    let mut voice_back = [85u8; buffers::VOICE];
+    let mut lsd_back = [85u8; buffers::LSD];
     pattern(&mut voice, 7);
     pattern(&mut lsd, 91);
     frame::write_block(&mut line, mode, header(), mute, &voice, &lsd);

@@ -11,7 +11,7 @@ use Rattle.bits.specs.Bits.{digit}
 use Rattle.bits.proofs.Every.{and-left, and-right, and-make}
 use Rattle.modes.specs.Numbers.{octet}
 use Rattle.modes.specs.Table.{audioPlaces, lsdPlaces}
-use Rattle.modes.specs.Owners.{within, rank, sameOwner, holds, heldBy, some, count, clash, overlaps, bitsPerFrame}
+use Rattle.modes.specs.Owners.{within, rank, sameOwner, holds, heldBy, some, sum, clash, overlaps, bitsPerFrame}
 use Rattle.modes.specs.declared.Mode.{Mode}
 use Rattle.modes.specs.declared.Places.{Places}
 use Rattle.modes.specs.declared.Owner.{Owner}
@@ -198,39 +198,39 @@ voice-ends-first m apart = go (leb (d .from) (v .to)) refl
         absurd (false≢true (sym apart ∙ overlaps-is m ∙ ap (λ (b : Bool). b || channel) met))
 
 -- ---- how many numbers of 1 to n
-pub count-ext : (n : ℕ) (f g : ℕ → ℕ) → ((k : ℕ) → k ≤ n → f k ≡ g k) → count n f ≡ count n g
-unfolding count
-count-ext zero f g h = refl
-count-ext (suc n) f g h = ap₂ _+_ (h (suc n) (omega arith)) (count-ext n f g (λ k l. h k (le-step l)))
+pub sum-ext : (n : ℕ) (f g : ℕ → ℕ) → ((k : ℕ) → k ≤ n → f k ≡ g k) → sum n f ≡ sum n g
+unfolding sum
+sum-ext zero f g h = refl
+sum-ext (suc n) f g h = ap₂ _+_ (h (suc n) (omega arith)) (sum-ext n f g (λ k l. h k (le-step l)))
 
-pub count-plus : (n : ℕ) (f : ℕ → ℕ) (c : ℕ) → count n (λ (k : ℕ). f k + c) ≡ count n f + n * c
-unfolding count
-count-plus zero f c = rw zero-mul
-count-plus (suc n) f c = omega (arith, count-plus n f c, suc-mul n c)
+pub sum-plus : (n : ℕ) (f : ℕ → ℕ) (c : ℕ) → sum n (λ (k : ℕ). f k + c) ≡ sum n f + n * c
+unfolding sum
+sum-plus zero f c = rw zero-mul
+sum-plus (suc n) f c = omega (arith, sum-plus n f c, suc-mul n c)
 
-pub count-within : (n a b : ℕ) → 1 ≤ a → a ≤ b + 1 → count n (λ (k : ℕ). digit (within a b k)) ≡ min n b + 1 - a
-unfolding count
-count-within zero a b h l = omega arith
-count-within (suc n) a b h l = go (leb a (suc n)) (leb (suc n) b) refl refl (count-within n a b h l)
+pub sum-within : (n a b : ℕ) → 1 ≤ a → a ≤ b + 1 → sum n (λ (k : ℕ). digit (within a b k)) ≡ min n b + 1 - a
+unfolding sum
+sum-within zero a b h l = omega arith
+sum-within (suc n) a b h l = go (leb a (suc n)) (leb (suc n) b) refl refl (sum-within n a b h l)
   where
-    go : (s t : Bool) → leb a (suc n) ≡ s → leb (suc n) b ≡ t → count n (λ (k : ℕ). digit (within a b k)) ≡ min n b + 1 - a
-        → digit (s && t) + count n (λ (k : ℕ). digit (within a b k)) ≡ min (suc n) b + 1 - a
+    go : (s t : Bool) → leb a (suc n) ≡ s → leb (suc n) b ≡ t → sum n (λ (k : ℕ). digit (within a b k)) ≡ min n b + 1 - a
+        → digit (s && t) + sum n (λ (k : ℕ). digit (within a b k)) ≡ min (suc n) b + 1 - a
     go true true es et i = omega (arith, leb-true, leb-false)
     go true false es et i = omega (arith, leb-true, leb-false)
     go false t es et i = omega (arith, leb-true, leb-false)
 
 -- the places of octet o are those of its bits 1 to 7, and its SC bit
-row-count : (p : Places) → Fit p → (o : ℕ)
-    → count 8 (λ (bit : ℕ). digit (holds p (octet o) bit)) ≡ digit (within (p .first .0) (p .last .0) o) + (p .to + 1 - p .from)
+row-sum : (p : Places) → Fit p → (o : ℕ)
+    → sum 8 (λ (bit : ℕ). digit (holds p (octet o) bit)) ≡ digit (within (p .first .0) (p .last .0) o) + (p .to + 1 - p .from)
 unfolding holds
-row-count p f o =
+row-sum p f o =
     let held : ℕ → ℕ = λ (bit : ℕ). digit (holds p (octet o) bit) in
-    let seven : count 7 held ≡ p .to + 1 - p .from =
-    count-ext 7 held (λ (bit : ℕ). digit (within (p .from) (p .to) bit))
+    let seven : sum 7 held ≡ p .to + 1 - p .from =
+    sum-ext 7 held (λ (bit : ℕ). digit (within (p .from) (p .to) bit))
     (λ k l. ap (λ (b : Bool). digit (cond b (within (p .first .0) (p .last .0) o) (within (p .from) (p .to) k))) (ne-eqb k 8 (λ e. omega arith)))
-    ∙ count-within 7 (p .from) (p .to) (f .starts) (f .spans)
+    ∙ sum-within 7 (p .from) (p .to) (f .starts) (f .spans)
     ∙ omega (arith, f .ends) in
-    let whole : count 8 held ≡ digit (within (p .first .0) (p .last .0) o) + count 7 held = unfold count in refl in
+    let whole : sum 8 held ≡ digit (within (p .first .0) (p .last .0) o) + sum 7 held = unfold sum in refl in
     whole ∙ ap (λ (n : ℕ). digit (within (p .first .0) (p .last .0) o) + n) seven
 
 pub bits-per-frame-is : (p : Places) → Fit p → bitsPerFrame p ≡ (p .to + 1 - p .from) * 80 + (p .last .0 + 1 - p .first .0)
@@ -238,7 +238,7 @@ unfolding bitsPerFrame
 bits-per-frame-is p f =
     let c = p .to + 1 - p .from in
     let channel : ℕ → ℕ = λ (o : ℕ). digit (within (p .first .0) (p .last .0) o) in
-    count-ext 80 (λ (o : ℕ). count 8 (λ (bit : ℕ). digit (holds p (octet o) bit))) (λ (o : ℕ). channel o + c) (λ o l. row-count p f o)
-    ∙ count-plus 80 channel c
-    ∙ ap (λ (n : ℕ). n + 80 * c) (count-within 80 (p .first .0) (p .last .0) (f .opens) (f .runs))
+    sum-ext 80 (λ (o : ℕ). sum 8 (λ (bit : ℕ). digit (holds p (octet o) bit))) (λ (o : ℕ). channel o + c) (λ o l. row-sum p f o)
+    ∙ sum-plus 80 channel c
+    ∙ ap (λ (n : ℕ). n + 80 * c) (sum-within 80 (p .first .0) (p .last .0) (f .opens) (f .runs))
     ∙ omega (arith, f .closes)

@@ -47,7 +47,7 @@ heldBy m Voice = audioPlaces (m .audio)
 heldBy m Lsd = lsdPlaces (m .lsd)
 heldBy m Nobody = octetBitsFrom 8
 
--- the one rule for the owner of a place: the first of these that holds it. So each place of each mode has one owner
+-- the one rule for the owner of a place: the first of these that holds it (DECISIONS F5). So each place of each mode has one owner
 unfoldable pub ownerOf : Mode → OctetNumber → ℕ → Owner
 ownerOf m o bit =
     cond (holds (heldBy m Service) o bit) Service
@@ -60,10 +60,10 @@ unfoldable pub some : ℕ → (ℕ → Bool) → Bool
 some zero p = false
 some (suc n) p = p (suc n) || some n p
 
--- how many numbers of 1 to n have p
-unfoldable pub count : ℕ → (ℕ → ℕ) → ℕ
-count zero p = 0
-count (suc n) p = p (suc n) + count n p
+-- the sum of p over 1 to n
+unfoldable pub sum : ℕ → (ℕ → ℕ) → ℕ
+sum zero p = 0
+sum (suc n) p = p (suc n) + sum n p
 
 -- some place is held by both
 unfoldable pub clash : Places → Places → Bool
@@ -85,4 +85,4 @@ overlaps m = two (λ (o p : Owner). clash (heldBy m o) (heldBy m p)) streams
 
 -- how many places of a frame are held
 unfoldable pub bitsPerFrame : Places → ℕ
-bitsPerFrame p = count 80 (λ (n : ℕ). count 8 (λ (bit : ℕ). digit (holds p (octet n) bit)))
+bitsPerFrame p = sum 80 (λ (n : ℕ). sum 8 (λ (bit : ℕ). digit (holds p (octet n) bit)))

@@ -7,7 +7,7 @@ use Rattle.modes.specs.Numbers.{octet}
 use Rattle.modes.specs.declared.OctetNumber.{OctetNumber}
 use Rattle.modes.specs.declared.Places.{Places}
 
--- octet bits `from` to `to` of every octet, and the SC bit of octets `first` to `last`; a range that ends before it starts is empty
+-- octet bits `from` to `to` of every octet, and the SC bit of octets `first` to `last`; a range that ends before it starts is empty (DECISIONS F4)
 abbrev pub bitsAndSc : ℕ → ℕ → OctetNumber → OctetNumber → Places
 bitsAndSc from to first last = record { listed = true; from = from; to = to; first = first; last = last }
 

@@ -140,7 +140,7 @@ fn sort_eight(line: &[u8], o: usize, run: Run, out: &mut [u8], at: usize)
 
 // Octets from + 1 to `to` of a block, eight by eight: in all of them the stream has one run, and eight runs of n bits are n octets.
 // The answer is how many octets the buffer then has. `line` is never shorter than `to`: that is tested all the same, once before the loop, so
-// that each eight is compiled without a test of its own.
+// that each eight is compiled without a test of its own (DECISIONS F35, F48).
 pub fn sort_run(
     line: &[u8],
     from: usize,

@@ -21,7 +21,7 @@ use Rattle.modes.specs.declared.Owner.the-variants.{Service, Voice, Lsd, Nobody
 use Rattle.modes.proofs.TableLaws.{beside-all, audio-fit, lsd-fit, audio-shape, lsd-shape}
 use Rattle.modes.proofs.OwnerLaws.{same-owner}
 use Rattle.places.specs.Streams.{same, count}
-use Rattle.places.specs.Places.{row, rows}
+use Rattle.places.specs.Places.{ownersOf, ownersTo}
 use Rattle.places.specs.Layout.{layoutOf, columnsBy, channelBy, rowBy, rowsBy, sc, inEights, Apart}
 use Rattle.places.specs.declared.Layout.{Layout}
 use Rattle.places.proofs.StreamLaws.{count-append, count-all, count-none}
@@ -108,8 +108,8 @@ unfolding heldBy
 held-from m = (lsd-fit (m .lsd) .starts, omega (arith, lsd-fit (m .lsd) .spans, lsd-fit (m .lsd) .ends))
 
 eight : (m : Mode) (o : OctetNumber) → 1 ≤ o .0
-    → row m o ≡ sevenBy ((heldBy m Voice) .to) ((heldBy m Lsd) .from) ++ (channelBy (layoutOf m) (o .0) ∷ [])
-unfolding row sevenBy
+    → ownersOf m o ≡ sevenBy ((heldBy m Voice) .to) ((heldBy m Lsd) .from) ++ (channelBy (layoutOf m) (o .0) ∷ [])
+unfolding ownersOf sevenBy
 eight m o h =
     rw (
       column-is m o 1 (lit< tt),
@@ -126,12 +126,12 @@ columns-are : (m : Mode) → sevenBy ((heldBy m Voice) .to) ((heldBy m Lsd) .fro
 unfolding layoutOf columnsBy columnsAs
 columns-are m = seven ((heldBy m Voice) .to) ((heldBy m Lsd) .from) (held-width m) (held-from m .0) (held-from m .1)
 
-pub row-is : (m : Mode) (o : OctetNumber) → 1 ≤ o .0 → row m o ≡ rowBy (layoutOf m) (o .0)
+pub row-is : (m : Mode) (o : OctetNumber) → 1 ≤ o .0 → ownersOf m o ≡ rowBy (layoutOf m) (o .0)
 unfolding rowBy
 row-is m o h = eight m o h ∙ ap (λ (l : List Owner). l ++ (channelBy (layoutOf m) (o .0) ∷ [])) (columns-are m)
 
-pub rows-are : (m : Mode) (n : ℕ) → rows m n ≡ rowsBy (layoutOf m) n
-unfolding rows rowsBy
+pub rows-are : (m : Mode) (n : ℕ) → ownersTo m n ≡ rowsBy (layoutOf m) n
+unfolding ownersTo rowsBy
 rows-are m zero = refl
 rows-are m (suc n) = ap₂ _++_ (rows-are m n) (row-is m (octet (suc n)) (omega arith))
 

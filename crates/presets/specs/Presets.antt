@@ -27,7 +27,7 @@ lsdIn bits = bits / 64 % 32
 unfoldable pub isPreset : ℕ → Bool
 isPreset bits = inRange (mode (audioIn bits) (lsdIn bits)) && eqb (bits % 64) 0
 
--- reading one gives a fresh state with that chosen audio, and the data code to offer; a refused one a fresh state and "data off"
+-- reading one gives a fresh state with that chosen audio, and the data code to offer; a refused one a fresh state and "data off" (DECISIONS P3, P6)
 unfoldable pub presetRead : ℕ → PresetRead
 presetRead bits =
     cond (isPreset bits)

@@ -27,6 +27,7 @@ use Rattle.control.specs.declared.Sender.{Sender}
 use Rattle.sender.specs.declared.Outcome.{Outcome}
 use Rattle.control.specs.declared.Answer.the-variants.{Sent}
 use Rattle.sender.proofs.OutcomeLaws.{stays-in-range}
+use Rattle.buffers.specs.Lengths.{lineOctets, zeroed}
 use Rattle.promises.specs.Session.{Turn, turned, after, accepted, entryOf}
 use Rattle.promises.specs.Demand2.{LaidDown}
 use Rattle.promises.specs.NotEnough.{Program, Meets, Accepts, RefusesEverything, SendsOneBlock, WritesNothing, Repeats, NoneIsEnough, NoPlaceMadeUp}
@@ -38,9 +39,8 @@ abbrev pub offer : ℕ → Turn
 offer code =
     record {
       call = record { mute = false; code = code; a = false; e = false; t = false };
-      voice = replicate 140 0;
-      lsd = replicate 156 0;
-      line = replicate 160 0;
+      lent = zeroed;
+      line = replicate lineOctets 0;
     }
 
 abbrev pub fresh : Sender
@@ -67,7 +67,7 @@ second =
       mode = mode audioOff 0;
       block = record { 0 = 2 };
       due = 0;
-      remainder = blockCrcOf (blockFor fresh ((offer 0x80) .call) 0x80 (replicate 140 0) (replicate 156 0));
+      remainder = blockCrcOf (blockFor fresh ((offer 0x80) .call) 0x80 zeroed);
     }
 
 second-found : after fresh (offer 0x80) ≡ second
@@ -78,7 +78,7 @@ second-range : stateInRange second ≡ true
 unfolding turned
 second-range =
     rw (← second-found)
-    (stays-in-range fresh ((offer 0x80) .call) (replicate 140 0) (replicate 156 0) (replicate 160 0) fresh-range)
+    (stays-in-range fresh ((offer 0x80) .call) zeroed (replicate lineOctets 0) fresh-range)
 
 second-sent : (turned second (offer 0x81)) .outcome .answer ≡ Sent
 unfolding second turned outcomeOf decisionOf rulingOf ruleOf planBy senderCarries carried clashes
@@ -91,10 +91,10 @@ module _ (s : Sender) (x : Turn) (taken : (turned s x) .outcome .answer ≡ Sent
 
   says : x .call .code < 256 → readingOf (basWord ((turned s x) .line)) ≡ Code (x .call .code)
   says small =
-      ap (λ (l : List ℕ). readingOf (basWord l)) (rw taken at laid) ∙ code-back (s .mode) _ (x .call .mute) (x .voice) (x .lsd) small
+      ap (λ (l : List ℕ). readingOf (basWord l)) (rw taken at laid) ∙ code-back (s .mode) _ (x .call .mute) (x .lent) small
 
   aligned-line : wrongBits ((turned s x) .line) ≡ 0
-  aligned-line = ap wrongBits laid ∙ right-alignment (s .mode) _ (x .call .mute) (x .voice) (x .lsd)
+  aligned-line = ap wrongBits laid ∙ right-alignment (s .mode) _ (x .call .mute) (x .lent)
 
 first-says : readingOf (basWord ((turned fresh (offer 0x80)) .line)) ≡ Code 0x80
 first-says = says fresh (offer 0x80) first-sent (omega arith)
@@ -109,7 +109,7 @@ two-codes : Code 0x81 ≡ Code 0x80 → ⊥
 two-codes e = let same : _≡_ {A = ℕ} 0x81 0x80 = cc in omega arith
 
 -- an empty line has five wrong alignment bits
-empty-wrong : wrongBits (replicate 160 0) ≡ 5
+empty-wrong : wrongBits (replicate lineOctets 0) ≡ 5
 unfolding wrongBits alignmentBits channelBits odd xors xor weight
 empty-wrong = refl
 

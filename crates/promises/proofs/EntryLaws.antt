@@ -6,7 +6,6 @@ use mathlib.Core.Logic.{_⊎_, inl, inr}
 use Prim.Native.Nat.{ℕ}
 use native.Mathlib.Omega.{arith}
 use lib.Dec.{eqb}
-use lib.ListN.{replicate}
 use denote.Ref.{now}
 use Rattle.text.proofs.OverLaws.{written-fits, written-cut}
 use Rattle.refusals.proofs.RowLaws.{number-within, numbered}
@@ -27,8 +26,9 @@ use Rattle.recording.specs.declared.Answer as walked
 use Rattle.recording.proofs.StepLaws.{look-step}
 use Rattle.walk.specs.declared.Walk.{Walk}
 use Rattle.walk.specs.declared.Onward.{Onward}
-use Rattle.lines.specs.Listing.{numberLine, listingBy, listingOf}
-use Rattle.lines.proofs.ListingLaws.{listing-ends}
+use Rattle.lines.specs.Lines.{numberLine}
+use Rattle.scribe.specs.Listing.{listingBy, listingOf}
+use Rattle.scribe.proofs.ListingLaws.{listing-ends}
 use Rattle.card.specs.Sending.{on}
 use Rattle.card.specs.Sending as card-sends
 use Rattle.card.specs.Walking.{markAfter}
@@ -39,6 +39,7 @@ use Rattle.card.specs.declared.StepOutcome.{StepOutcome}
 use Rattle.card.specs.declared.PresetOutcome.{PresetOutcome}
 use Rattle.card.specs.declared.PresetBits.{PresetBits}
 use Rattle.card.proofs.ReadLaws.{mark-still}
+use Rattle.buffers.specs.Lengths.{zeroed}
 use Rattle.promises.specs.Session.{Turn, turned}
 use Rattle.promises.specs.Demand1.{Row, first, Refuses, held, searchingRows}
 use Rattle.promises.specs.EntryPoints.{Looking, WalkLooking, StepOfWalk, LookOfWalk, callInC, SendingInC, ReadingInC, SearchingInC, SteppingInC, ReadingPresetInC, WritingPresetInC, Listing}
@@ -54,16 +55,12 @@ refuses-as r e f = record { ordered = r .ordered; exact = e ∙ r .exact; kept =
 -- ---- the looks
 pub looking : Looking
 looking s line r e =
-    let voice : List ℕ = replicate 140 0 in
-    let lsd : List ℕ = replicate 156 0 in
-    let t = reading-refuses s line voice lsd r _ _ (told s line voice lsd r _ _ (e ∙ look-read s line voice lsd refl refl) refl refl) in
+    let t = reading-refuses s line zeroed r _ (told s line zeroed r _ (e ∙ look-read s line zeroed refl) refl) in
     record { ordered = refl; exact = t .exact; kept = λ h. t .kept h .0 }
 
 pub walk-looking : WalkLooking
 walk-looking recording place lost s r e =
-    let voice : List ℕ = replicate 140 0 in
-    let lsd : List ℕ = replicate 156 0 in
-    let t = stepping-refuses recording place lost s voice lsd r _ _ (e ∙ look-step recording place lost s voice lsd refl refl) refl refl in
+    let t = stepping-refuses recording place lost s zeroed r _ (e ∙ look-step recording place lost s zeroed refl) refl in
     record { ordered = refl; exact = t .exact; kept = λ h. let k = t .kept h in (k .0, k .1, k .2) }
 
 -- ---- the walk's functions: what they give is what the step gives, with the walk where the step leaves it
@@ -72,10 +69,10 @@ moved : (w : Walk) (place : ℕ) (lost : Bool) → place ≡ w .place → lost �
 moved w place lost p l = λ i. record { recording = w .recording; place = p i; lost = l i }
 
 pub step-of-walk : StepOfWalk
-step-of-walk w s voice lsd r v d e ev ed =
-    refuses-as (stepping-refuses (now (w .recording)) (w .place) (w .lost) s voice lsd _ v d refl ev ed)
+step-of-walk w s b r out e f =
+    refuses-as (stepping-refuses (now (w .recording)) (w .place) (w .lost) s b _ out refl f)
     (ap (λ (o : Onward). walk-list.numberIn (o .answer)) e)
-    (λ k. (ap (λ (o : Onward). o .walk) e ∙ moved w _ _ (k .1) (k .2), ap (λ (o : Onward). o .reader) e ∙ k .0, k .3, k .4))
+    (λ k. (ap (λ (o : Onward). o .walk) e ∙ moved w _ _ (k .1) (k .2), ap (λ (o : Onward). o .reader) e ∙ k .0, k .3))
 
 pub look-of-walk : LookOfWalk
 look-of-walk w s r e =
@@ -119,26 +116,26 @@ held-or-sent s x none = go (turn-cases s x)
     go (inr (rule, w)) = ap sender-list.kindOf (answered s x rule w) ∙ kind (held s (x .call))
 
 pub sending-in-C : SendingInC
-unfolding card-sends.sent card-sends.lineSent turned
-sending-in-C s mute code a e t voice lsd line r next l (er, en, el) =
-    let x : Turn = record { call = callInC mute code a e t; voice = voice; lsd = lsd; line = line } in
+unfolding card-sends.sent turned
+sending-in-C s mute code a e t b line r next l (er, en, el) =
+    let x : Turn = record { call = callInC mute code a e t; lent = b; line = line } in
     let number = ap (λ (q : SendAnswer). q .number) er in
     let kind = ap (λ (q : SendAnswer). q .kind) er in (
       record {
-        refuses = refuses-as (sending-refuses s (x .call) voice lsd line _ _ (turn-told s x)) number (λ k. (en ∙ k .0, el ∙ k .1));
+        refuses = refuses-as (sending-refuses s (x .call) b line _ _ (turn-told s x)) number (λ k. (en ∙ k .0, el ∙ k .1));
         told = tells-as (r .kind) 2 kind number (kind-sent ((turned s x) .outcome .answer));
       },
       λ z. kind ∙ held-or-sent s x (sym number ∙ z),
     )
 
 pub reading-in-C : ReadingInC
-reading-in-C s line voice lsd r v d (er, ev, ed) =
+reading-in-C s line b r out (er, eb) =
     let number = ap (λ (q : ReadOutcome). q .answer .number) er in
     record {
       refuses =
-          refuses-as (reading-refuses s line voice lsd _ v d (told s line voice lsd _ v d refl ev ed)) number
-          (λ k. (ap (λ (q : ReadOutcome). q .state) er ∙ k .0, k .1, k .2));
-      told = tells-as (r .answer .kind) 1 (ap (λ (q : ReadOutcome). q .answer .kind) er) number (kind-read ((reading.outcomeOf s line voice lsd) .answer));
+          refuses-as (reading-refuses s line b _ out (told s line b _ out refl eb)) number
+          (λ k. (ap (λ (q : ReadOutcome). q .state) er ∙ k .0, k .1));
+      told = tells-as (r .answer .kind) 1 (ap (λ (q : ReadOutcome). q .answer .kind) er) number (kind-read ((reading.outcomeOf s line b) .answer));
     }
 
 -- an answer without a number is the place
@@ -154,18 +151,17 @@ searching-in-C recording start r e =
     )
 
 pub stepping-in-C : SteppingInC
-stepping-in-C recording place mark s voice lsd r v d (er, ev, ed) =
+stepping-in-C recording place mark s b r out (er, eb) =
     let number = ap (λ (q : StepOutcome). q .answer .number) er in
-    let x = stepAt recording place (on mark) s voice lsd in
+    let x = stepAt recording place (on mark) s b in
     record {
       refuses =
-          refuses-as (stepping-refuses recording place (on mark) s voice lsd x v d refl ev ed) number
+          refuses-as (stepping-refuses recording place (on mark) s b x out refl eb) number
           (λ k. (
             ap (λ (q : StepOutcome). q .reader) er ∙ k .0,
             ap (λ (q : StepOutcome). q .place) er ∙ k .1,
             ap (λ (q : StepOutcome). q .lost) er ∙ ap (markAfter mark) (k .2) ∙ mark-still mark,
             k .3,
-            k .4,
           ));
       told = tells-as (r .answer .kind) 3 (ap (λ (q : StepOutcome). q .answer .kind) er) number (kind-walked (x .answer));
     }

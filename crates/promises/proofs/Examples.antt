@@ -27,7 +27,9 @@ use Rattle.slots.specs.declared.Due.the-variants.{Plain}
 use Rattle.slots.specs.Slots.{slotOf}
 use Rattle.track.specs.State.{stateInRange as readerInRange}
 use Rattle.track.specs.declared.Reader.{Reader}
-use Rattle.promises.specs.Demand2.{wordOf, InStep, Agrees, EightBits}
+use Rattle.buffers.specs.Lengths.{lineOctets, streamOctets, zeroed}
+use Rattle.buffers.specs.Buffers.{each}
+use Rattle.promises.specs.Demand2.{wordSent, InStep, Agrees, EightBits}
 use Rattle.promises.specs.Session.{Turn, turned, after, run, log}
 use Rattle.promises.specs.Demand3.{silent, AlikeTurn, Alike, MuteStaysSet, MuteGone, By}
 use Rattle.promises.proofs.SilenceLaws.{run-allowed, silence}
@@ -41,9 +43,8 @@ abbrev turn : Bool → ℕ → Turn
 turn mute v =
     record {
       call = record { mute = mute; code = 32; a = false; e = false; t = false };
-      voice = replicate 140 v;
-      lsd = replicate 156 0;
-      line = replicate 160 0;
+      lent = each (replicate (streamOctets .voice) v) (replicate (streamOctets .lsd) 0);
+      line = replicate lineOctets 0;
     }
 
 abbrev muted : ℕ → List Turn
@@ -56,7 +57,7 @@ muted-example s = record { call = refl; lsd = refl; line = refl; lengths = refl;
 off-example : AlikeTurn (freshWith audioOff) (turn false 0) (turn false 1)
 off-example = record { call = refl; lsd = refl; line = refl; lengths = refl; heard = λ h. absurd (false≢true (sym h)) }
 
-differ-example : (turn true 0) .voice ≡ (turn true 1) .voice → ⊥
+differ-example : (turn true 0) .lent .voice ≡ (turn true 1) .lent .voice → ⊥
 differ-example h = let z : _≡_ {A = ℕ} 0 1 = ap (λ (l : List ℕ). getD l 0 0) h in absurd (omega arith)
 
 alike-example : Alike (talking 0) (muted 0) (muted 1)
@@ -94,7 +95,7 @@ second =
       mode = mode 24 0;
       block = record { 0 = 2 };
       due = 0;
-      remainder = blockCrcOf (blockFor (talking 1) ((turn true 0) .call) 32 (replicate 140 0) (replicate 156 0));
+      remainder = blockCrcOf (blockFor (talking 1) ((turn true 0) .call) 32 zeroed);
     }
 
 second-found : after (talking 1) (turn true 0) ≡ second
@@ -105,7 +106,7 @@ second-range : stateInRange second ≡ true
 unfolding turned
 second-range =
     rw (← second-found)
-    (stays-in-range (talking 1) ((turn true 0) .call) (replicate 140 0) (replicate 156 0) (replicate 160 0) (range-example 1))
+    (stays-in-range (talking 1) ((turn true 0) .call) zeroed (replicate lineOctets 0) (range-example 1))
 
 second-held : (turned second (turn true 0)) .outcome .answer ≡ Held
 unfolding second turned outcomeOf decisionOf rulingOf ruleOf planBy
@@ -159,9 +160,8 @@ abbrev neutral-turn : Turn
 neutral-turn =
     record {
       call = record { mute = false; code = neutral; a = false; e = false; t = false };
-      voice = replicate 140 0;
-      lsd = replicate 156 0;
-      line = replicate 160 0;
+      lent = zeroed;
+      line = replicate lineOctets 0;
     }
 
 -- neutral can be offered where no item is due, and goes as the word
@@ -173,5 +173,5 @@ neutral-sent : (turned seventh neutral-turn) .outcome .answer ≡ Sent
 unfolding turned outcomeOf decisionOf rulingOf ruleOf planBy senderCarries carried clashes audioPlaces audioTable lsdPlaces lsdTable beside overlaps clash some holds heldBy
 neutral-sent = rw seventh-range
 
-neutral-example : wordOf (record { found = seventh; turn = neutral-turn }) ≡ neutral
+neutral-example : wordSent (record { found = seventh; turn = neutral-turn }) ≡ neutral
 neutral-example = rw neutral-sent

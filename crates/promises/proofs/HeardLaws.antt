@@ -17,7 +17,7 @@ use Rattle.slots.specs.declared.Reading.the-variants.{Mended}
 use Rattle.control.specs.declared.Rule.{Rule}
 use Rattle.track.specs.declared.Reader.{Reader}
 use Rattle.promises.specs.Session.{after, Entry, log}
-use Rattle.promises.specs.Demand2.{wordOf, commanded, readerAfter, Back, AllBack}
+use Rattle.promises.specs.Demand2.{wordSent, commanded, readerAfter, Back, AllBack}
 use Rattle.promises.specs.Demand3.{MuteGone, By, MuteHeard, HeardBy, MuteIsHeard}
 use Rattle.promises.proofs.TurnLaws.{Stayed, Went, turn-cases}
 use Rattle.promises.proofs.InStepLaws.{goes-on, stays-in-step}
@@ -28,7 +28,7 @@ off-mended : readingIn Plain (Code audioOff) ≡ Mended audioOff
 unfolding readingIn readerCarries carried audioPlaces audioTable beside
 off-mended = refl
 
-word-off : (e : Entry) → MuteGone e → wordOf e ≡ audioOff
+word-off : (e : Entry) → MuteGone e → wordSent e ≡ audioOff
 word-off e g = rw (g .held, g .muted)
 
 -- and turns the audio in force off
@@ -50,7 +50,7 @@ heard : (e : Entry) (r : Reader) → MuteGone e → Back e r → MuteHeard e r
 heard e r g b =
     record {
       gone = g;
-      read = λ o v d h. h .word ∙ ap₂ (λ (d : Due) (n : ℕ). readingIn d (Code n)) (g .command) (word-off e g) ∙ off-mended;
+      read = λ o out h. h .word ∙ ap₂ (λ (d : Due) (n : ℕ). readingIn d (Code n)) (g .command) (word-off e g) ∙ off-mended;
       closed = ap (λ (m : Mode). m .audio) (b .step .mode) ∙ force-off e g;
     }
 

@@ -48,7 +48,7 @@ use Rattle.track.specs.Signs.{signsOf}
 use Rattle.track.specs.Parts as parts
 use Rattle.track.specs.Parts.{multiframeAfter}
 use Rattle.track.specs.Step.{reportOf, nextOf, stepOf}
-use Rattle.reader.specs.Step.{voiceBy, lsdBy, Told}
+use Rattle.reader.specs.Step.{handedBy, Told}
 use Rattle.track.specs.declared.Reader.{Reader}
 use Rattle.track.specs.declared.Signs.{Signs}
 use Rattle.track.specs.declared.Multiframe.{Multiframe}
@@ -61,11 +61,13 @@ use Rattle.reader.specs.declared.Answer.the-variants.{Block}
 use Rattle.reader.proofs.OutcomeLaws.{takes, told-taken}
 use Rattle.slots.proofs.SlotLaws.{due-back}
 use Rattle.track.proofs.RangeLaws.{step-in-range}
-use Rattle.sorter.specs.Sorting.{sortedOf}
+use Rattle.sorter.specs.Sorting.{sortedOf, streamsOf}
 use Rattle.places.proofs.CountLaws.{voice-twice, lsd-twice}
 use Rattle.round.proofs.RoundLaws.{voice-bits-back, lsd-back}
+use Rattle.buffers.specs.Buffers.{Each, Buffers, lengths}
+use Rattle.buffers.specs.Lengths.{lineOctets, streamOctets}
 use Rattle.promises.specs.Session.{Turn, after, Entry, log, blockSent, entryOf}
-use Rattle.promises.specs.Demand2.{wordTold, wordOf, Answered, LaidDown, commanded, GoesOn, BlockAfterBlock, OctetsLaidDown, KeptAsSent, Placed, InStep, Agrees, readerAfter, HandedBack, Back, AllBack, StaysInStep, MendsWords, JoinsAtNeutral}
+use Rattle.promises.specs.Demand2.{wordTold, wordSent, Answered, LaidDown, commanded, GoesOn, BlockAfterBlock, OctetsLaidDown, KeptAsSent, Placed, InStep, Agrees, readerAfter, HandedBack, Back, AllBack, StaysInStep, MendsWords, JoinsAtNeutral}
 use Rattle.promises.proofs.TurnLaws.{Stayed, Went, turn-cases, log-stayed, log-went}
 use Rattle.promises.proofs.RuleLaws.{rule-due, rule-answer, rule-word, rule-chosen}
 use Rattle.promises.proofs.WordLaws.{force-apart, Sends, word-small, plan-mode, mode-follows, due-after-same}
@@ -161,7 +163,7 @@ module _ (s : Sender) (x : Turn) (rule : Rule) (w : Went s x rule) where
   item-is : goesAsItem rule ≡ itemDue s
   item-is = ap goesAsItem (w .rule-is) ∙ rule-due s (x .call .mute)
 
-  word-is : wordOf entry ≡ plan .word
+  word-is : wordSent entry ≡ plan .word
   word-is =
       ap (λ (a : Answer). wordTold a (x .call .mute) s (x .call .code)) (w .answer)
       ∙ ap (λ (q : Rule). wordTold ((planBy q s (x .call .code)) .answer) (x .call .mute) s (x .call .code)) (w .rule-is)
@@ -172,7 +174,7 @@ module _ (s : Sender) (x : Turn) (rule : Rule) (w : Went s x rule) where
   answered =
       w .answer ∙ ap (λ (q : Rule). (planBy q s (x .call .code)) .answer) (w .rule-is) ∙ rule-answer s (x .call)
 
-  pub line-is : blockSent entry ≡ blockOf (s .mode) header (x .call .mute) (x .voice) (x .lsd)
+  pub line-is : blockSent entry ≡ blockOf (s .mode) header (x .call .mute) (x .lent)
   unfolding blockFor
   line-is = w .line
 
@@ -187,7 +189,7 @@ module _ (s : Sender) (x : Turn) (rule : Rule) (w : Went s x rule) where
   laid-down : LaidDown entry
   laid-down =
       line-is
-      ∙ ap (λ (n : ℕ). blockOf (s .mode) (headerFor s (x .call) n) (x .call .mute) (x .voice) (x .lsd)) (sym word-is)
+      ∙ ap (λ (n : ℕ). blockOf (s .mode) (headerFor s (x .call) n) (x .call .mute) (x .lent)) (sym word-is)
 
   pub goes-on : GoesOn entry (after s x)
   unfolding dueAfter
@@ -198,7 +200,7 @@ module _ (s : Sender) (x : Turn) (rule : Rule) (w : Went s x rule) where
         mode =
             ap (λ (q : Sender). q .mode) (w .state) ∙ plan-mode s (x .call .code) rule sends
             ∙ ap₂ (λ (b : Bool) (n : ℕ). cond b (s .mode) (offered (commandOf n) (s .mode))) item-is (sym word-is)
-            ∙ commanded-is (itemDue s) (wordOf entry) (s .mode);
+            ∙ commanded-is (itemDue s) (wordSent entry) (s .mode);
         chosen =
             ap (λ (q : Sender). q .chosen) (w .state)
             ∙ ap (λ (q : Rule). (planBy q s (x .call .code)) .chosen) (w .rule-is) ∙ rule-chosen s (x .call);
@@ -222,23 +224,23 @@ module _ (s : Sender) (x : Turn) (rule : Rule) (w : Went s x rule) where
   shows small =
       let m = s .mode in
       let low = leb-true (s .remainder) 15 (sends .kept .rest) in
-      let wrong = ap wrongBits line-is ∙ right-alignment m header (x .call .mute) (x .voice) (x .lsd) in
-      let c = ap cBits line-is ∙ remainder-back m header (x .call .mute) (x .voice) (x .lsd) (omega arith) in
-      let first = ap oddFirst line-is ∙ first-bit-back m header (x .call .mute) (x .voice) (x .lsd) in
+      let wrong = ap wrongBits line-is ∙ right-alignment m header (x .call .mute) (x .lent) in
+      let c = ap cBits line-is ∙ remainder-back m header (x .call .mute) (x .lent) (omega arith) in
+      let first = ap oddFirst line-is ∙ first-bit-back m header (x .call .mute) (x .lent) in
       let code = ap (λ (l : List ℕ). readingOf (basWord l)) line-is
-      ∙ code-back m header (x .call .mute) (x .voice) (x .lsd) (word-small s (x .call .code) rule sends small) in
+      ∙ code-back m header (x .call .mute) (x .lent) (word-small s (x .call .code) rule sends small) in
       rw (wrong, c, first, code)
 
-  pub line-length : length (blockSent entry) ≡ 160
+  pub line-length : length (blockSent entry) ≡ lineOctets
   unfolding blockOf
-  line-length = ap length line-is ∙ length-octets 160 _
+  line-length = ap length line-is ∙ length-octets lineOctets _
 
   pub stepped : x .call .code < 256 → (r : Reader) → stepOf r (signsOf (blockSent entry)) ≡ record { state = nextOf r shown 0; report = reportOf r shown }
   unfolding stepOf
   stepped small r = ap (stepOf r) (shows small)
 
   module _ (small : x .call .code < 256) (r : Reader) (st : Placed s r) where
-    reading-is : parts.readingOf r (Code (plan .word)) ≡ readingIn (wordDue s) (Code (plan .word))
+    reading-is : parts.wordRead r (Code (plan .word)) ≡ readingIn (wordDue s) (Code (plan .word))
     reading-is = rw (st .knows) (reading-same (dueOf (r .slot)) (wordDue s) (plan .word) (st .due) (due-stands (itemDue s)))
 
     -- the word due after the block is the sender's
@@ -305,15 +307,16 @@ module _ (s : Sender) (x : Turn) (rule : Rule) (w : Went s x rule) where
         }
 
     -- what it hands out is what was sent
-    hands-back : r .mode ≡ s .mode → (voice lsd : List ℕ) (o : Outcome) (v d : List ℕ) → length voice ≡ 140 → length lsd ≡ 156
-        → Told r (blockSent entry) voice lsd o v d → HandedBack entry r o v d
-    unfolding reportOf
-    hands-back same voice lsd o v d hv hd told =
-        let fits = takes r _ _ _ (record { range = st .range; line-fits = line-length; voice-fits = hv; lsd-fits = hd }) in
-        let t = told-taken r (blockSent entry) voice lsd o v d fits told in
+    hands-back : r .mode ≡ s .mode → (b : Buffers) (o : Outcome) (out : Buffers) → lengths b ≡ streamOctets
+        → Told r (blockSent entry) b o out → HandedBack entry r o out
+    unfolding reportOf streamsOf
+    hands-back same b o out fit told =
+        let fits = takes r _ _ (record { range = st .range; line-fits = line-length; streams = fit }) in
+        let t = told-taken r (blockSent entry) b o out fits told in
         let is = ap (λ (q : Stepped). q .report) (stepped small r) in
         let read : parts.standingOf r ≡ Read = rw (st .knows) in
         let standing = ap (λ (q : Report). q .standing) is ∙ read in
+        let handed = t .1 ∙ ap₂ (λ (q : Standing) (m : Mode). handedBy q m (blockSent entry)) standing same in
         let apart = force-apart s (sends .kept) (s .mode .lsd) (sends .kept .ranges .apart) in
         record {
           report = reportOf r shown;
@@ -323,15 +326,15 @@ module _ (s : Sender) (x : Turn) (rule : Rule) (w : Went s x rule) where
           first = λ z. rw (eq-eqb (r .before) 0 z);
           good = λ a. rw (ne-eqb (r .before) 0 (a .before), eq-eqb (s .remainder) (r .remainder) (sym (a .remainder)));
           heard =
-              t .1 ∙ ap₂ (λ (q : Standing) (m : Mode). voiceBy q m (blockSent entry)) standing same
-              ∙ ap (sortedOf (s .mode) Voice 140) line-is
-              ∙ voice-bits-back (s .mode) header (x .call .mute) (x .voice) (x .lsd) (w .goes .voice)
-              ∙ ap (λ (n : ℕ). octets 140 (cond (x .call .mute) (replicate n true) (take n (bitsOf (x .voice))))) (voice-twice (s .mode));
+              ap (λ (z : Buffers). z .voice) handed
+              ∙ ap (sortedOf (s .mode) Voice (streamOctets .voice)) line-is
+              ∙ voice-bits-back (s .mode) header (x .call .mute) (x .lent) (ap (λ (n : Each ℕ). n .voice) (w .goes .streams))
+              ∙ ap (λ (n : ℕ). octets (streamOctets .voice) (cond (x .call .mute) (replicate n true) (take n (bitsOf (x .lent .voice))))) (voice-twice (s .mode));
           given =
-              t .2 ∙ ap₂ (λ (q : Standing) (m : Mode). lsdBy q m (blockSent entry)) standing same
-              ∙ ap (sortedOf (s .mode) Lsd 156) line-is
-              ∙ lsd-back (s .mode) header (x .call .mute) (x .voice) (x .lsd) (w .goes .lsd)
-              ∙ ap (λ (n : ℕ). octets 156 (take n (bitsOf (x .lsd)))) (lsd-twice (s .mode) apart);
+              ap (λ (z : Buffers). z .lsd) handed
+              ∙ ap (sortedOf (s .mode) Lsd (streamOctets .lsd)) line-is
+              ∙ lsd-back (s .mode) header (x .call .mute) (x .lent) (ap (λ (n : Each ℕ). n .lsd) (w .goes .streams))
+              ∙ ap (λ (n : ℕ). octets (streamOctets .lsd) (take n (bitsOf (x .lent .lsd)))) (lsd-twice (s .mode) apart);
           state = ap (λ (q : Outcome). q .state) (t .0);
         }
 

@@ -7,7 +7,7 @@ use Rattle.track.specs.Parts.{standingNumber, verdictNumber}
 use Rattle.reader.specs.Step.{outcomeOf}
 use Rattle.reader.specs.declared.Answer.the-variants.{Block}
 use Rattle.reader.proofs.OutcomeLaws.{told}
-use Rattle.card.specs.Sending.{sent, lineSent}
+use Rattle.card.specs.Sending.{sent}
 use Rattle.answers.specs.Answers.{readAnswerOf}
 use Rattle.answers.specs.declared.ReadAnswer.{ReadAnswer}
 use Rattle.card.specs.declared.ReadOutcome.{ReadOutcome}
@@ -17,7 +17,7 @@ use Rattle.promises.proofs.SilenceLaws.{run-allowed, silence}
 
 -- what one call leaves is what the same call by value leaves
 left-is : (s : Sender) (x : Given) (l : LeftInC) → LeavesInC s x l → l ≡ inC (turned s (turnOf x))
-unfolding sent lineSent turned
+unfolding sent turned
 left-is s x l h = λ i. record { state = h .1 i; answer = h .0 i; line = h .2 i }
 
 lent-run : (s : Sender) (xs : List Given) (ls : List LeftInC) → AllowedInC s xs ls → ls ≡ map inC (run s (map turnOf xs))
@@ -40,8 +40,8 @@ lent-silence s xs ys ls ms h k alike =
     lent-run s xs ls h ∙ ap (map inC) same ∙ sym (lent-run s ys ms k)
 
 pub read-back-in-C : ReadBackInC
-read-back-in-C e r b voice lsd o v d hv hd (eo, ev, ed) =
-    let h = b .hands voice lsd (outcomeOf r (blockSent e) voice lsd) v d hv hd (told r (blockSent e) voice lsd _ v d refl ev ed) in
+read-back-in-C e r back b o out fit (eo, eb) =
+    let h = back .hands b (outcomeOf r (blockSent e) b) out fit (told r (blockSent e) b _ out refl eb) in
     let is : o .answer ≡ readAnswerOf (Block (h .report)) = ap (λ (q : ReadOutcome). q .answer) eo ∙ ap readAnswerOf (h .answer) in
     record {
       accepted = (ap (λ (q : ReadAnswer). q .kind) is, ap (λ (q : ReadAnswer). q .number) is);

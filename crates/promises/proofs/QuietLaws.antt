@@ -41,7 +41,7 @@ module _ (b : BlockNumber) (n : ℕ) (range : stateInRange (still b n) ≡ true)
   calm-sent = rw range
 
   abbrev next : ℕ
-  next = blockCrcOf (blockFor (still b n) (calm .call) 0x80 (calm .voice) (calm .lsd))
+  next = blockCrcOf (blockFor (still b n) (calm .call) 0x80 (calm .lent))
 
   calm-after : after (still b n) calm ≡ still (following b) next
   unfolding turned outcomeOf decisionOf rulingOf ruleOf planBy senderCarries carried clashes commandOf offered openingOf
@@ -49,7 +49,7 @@ module _ (b : BlockNumber) (n : ℕ) (range : stateInRange (still b n) ≡ true)
 
   still-range : stateInRange (still (following b) next) ≡ true
   unfolding turned
-  still-range = rw (← calm-after) (stays-in-range (still b n) (calm .call) (calm .voice) (calm .lsd) (calm .line) range)
+  still-range = rw (← calm-after) (stays-in-range (still b n) (calm .call) (calm .lent) (calm .line) range)
 
 -- every call of a quiet session is accepted, and leaves it quiet
 record Calm (k : ℕ) (s : Sender) : Type 0 where

@@ -6,7 +6,7 @@ use mathlib.Core.Logic.{_⊎_, inl, inr}
 use Prim.Native.Nat.{ℕ, zero, suc, _+_, _-_, _≤_}
 use native.Mathlib.Omega.{arith}
 use lib.Dec.{leb}
-use lib.ListN.{length, getD, take, drop, replicate, length-append, length-drop, List·getD-append}
+use lib.ListN.{length, getD, take, drop, length-append, length-drop, List·getD-append}
 use lib.Seq.{take-at, drop-at, drop-drop, getD-append-add, drop-append-seam}
 use borrow.Author.Tests.{eq-eqb, le-leb, le-ltb, leb-true}
 use Rattle.bits.specs.Bits.{odd, number, xors}
@@ -32,10 +32,12 @@ use Rattle.reader.specs.declared.Answer as heard
 use Rattle.slots.specs.declared.Reading.the-variants.{NotRead}
 use Rattle.reader.proofs.OutcomeLaws.{takes, taken-is}
 use Rattle.track.proofs.RangeLaws.{step-in-range}
-use Rattle.recording.specs.Walk.{leftFrom, blockAt, isLost, voiceBy, lsdBy, steppedBy, answerAt, stepAt, lookAt, voiceAt, lsdAt}
+use Rattle.recording.specs.Walk.{leftFrom, blockAt, isLost, buffersBy, steppedBy, answerAt, stepAt, lookAt, buffersAt}
 use Rattle.recording.specs.declared.Answer as walked
 use Rattle.recording.specs.declared.Stepped.{Stepped}
 use Rattle.recording.proofs.StepLaws.{look-step, rules-go}
+use Rattle.buffers.specs.Buffers.{Buffers, lengths}
+use Rattle.buffers.specs.Lengths.{lineOctets, streamOctets, zeroed}
 use Rattle.promises.specs.Session.{Turn, after, Entry, log, blockSent}
 use Rattle.promises.specs.Demand2.{readerAfter, readerOn, AllBack, InStep, untilSix, senderOn}
 use Rattle.promises.specs.Recordings.{Aligned, SearchFinds, octetsSent, FindsAlignment, Steps, AsRead, AllAsRead, WalksAsRead, AllStepsBack, WalkStaysInStep, walkedOn, WalkComesIntoStep}
@@ -78,7 +80,7 @@ search-finds recording start =
 
 -- ---- a block that was sent
 record Framed (b : List ℕ) : Type 0 where
-  length : length b ≡ 160
+  length : length b ≡ lineOctets
   word : alignmentBits b ≡ evenAlignment ++ (true ∷ [])
 
 abbrev AllFramed : List Entry → Type 0
@@ -92,7 +94,7 @@ log-framed s (x ∷ xs) = go (turn-cases s x) (log-framed s xs) (log-framed (aft
     go : Stayed s x ⊎ ((rule : Rule) × Went s x rule) → AllFramed (log s xs) → AllFramed (log (after s x) xs) → AllFramed (log s (x ∷ xs))
     go (inl k) same next = rw (log-stayed s x xs k) same
     go (inr (rule, w)) same next =
-        let word = ap alignmentBits (line-is s x rule w) ∙ alignment-back (s .mode) _ (x .call .mute) (x .voice) (x .lsd) in
+        let word = ap alignmentBits (line-is s x rule w) ∙ alignment-back (s .mode) _ (x .call .mute) (x .lent) in
         rw (log-went s x xs rule w) (record { length = line-length s x rule w; word = word }, next)
 
 -- ---- the channel of octets that stand in a row
@@ -175,50 +177,48 @@ module _ (recording : List ℕ) (place : ℕ) (r : Reader) (e : Entry) (rest : L
     (framed : Framed (blockSent e)) (here : drop place recording ≡ blockSent e ++ rest)
     (small : length recording ≤ 65536) (range : stateInRange r ≡ true)
   where
-    block-inside : place + 160 ≤ length recording
+    block-inside : place + lineOctets ≤ length recording
     block-inside =
-        let left : length recording - place ≡ 160 + length rest =
+        let left : length recording - place ≡ lineOctets + length rest =
         sym (length-drop place recording) ∙ ap length here ∙ length-append (blockSent e) rest ∙ ap (λ (n : ℕ). n + length rest) (framed .length) in
         omega arith
 
     block-here : blockAt recording place ≡ blockSent e
-    block-here = ap (take 160) here ∙ take-at (blockSent e) rest 160 (framed .length)
+    block-here = ap (take lineOctets) here ∙ take-at (blockSent e) rest lineOctets (framed .length)
 
     abbrev p : read.Stepped
     p = stepOf r (signsOf (blockSent e))
 
-    answered : (voice lsd : List ℕ) → length voice ≡ 140 → length lsd ≡ 156
-        → answerAt recording place false r voice lsd ≡ walked.the-variants.Block (p .report)
+    answered : (b : Buffers) → lengths b ≡ streamOctets → answerAt recording place false r b ≡ walked.the-variants.Block (p .report)
     unfolding answerAt
-    answered voice lsd hv hd =
-        let go = rules-go (length recording) place r (length voice) (length lsd) (record { range = range; heard = hv; given = hd; small = small; inside = omega (arith, block-inside) }) in
-        rw (go, le-ltb (leftFrom recording place) 160 (omega (arith, block-inside)), block-here)
+    answered b fit =
+        let go = rules-go (length recording) place r (lengths b) (record { range = range; streams = fit; small = small; inside = omega (arith, block-inside) }) in
+        rw (go, le-ltb (leftFrom recording place) lineOctets (omega (arith, block-inside)), block-here)
 
     as-read : Steps recording place r (AsRead place r e)
-    unfolding stepAt voiceAt lsdAt
-    as-read voice lsd x v d hv hd ex ev ed =
-        let a = answered voice lsd hv hd in
+    unfolding stepAt buffersAt
+    as-read b x out fit ex eb =
+        let a = answered b fit in
         let is = p .report in
         let x-is = ex ∙ ap (λ (q : walked.Answer). steppedBy q recording place false r) a
-        ∙ ap (λ (b : List ℕ). record { answer = walked.the-variants.Block is; reader = (stepOf r (signsOf b)) .state; place = place + 160; lost = isLost is }) block-here in
-        let v-is = ev ∙ ap (λ (q : walked.Answer). voiceBy q recording place r voice) a ∙ ap (reading.voiceBy (is .standing) (r .mode)) block-here in
-        let d-is = ed ∙ ap (λ (q : walked.Answer). lsdBy q recording place r lsd) a ∙ ap (reading.lsdBy (is .standing) (r .mode)) block-here in
-        let fits = takes r _ _ _ (record { range = range; line-fits = framed .length; voice-fits = hv; lsd-fits = hd }) in
+        ∙ ap (λ (l : List ℕ). record { answer = walked.the-variants.Block is; reader = (stepOf r (signsOf l)) .state; place = place + lineOctets; lost = isLost is }) block-here in
+        let out-is = eb ∙ ap (λ (q : walked.Answer). buffersBy q recording place r b) a ∙ ap (reading.handedBy (is .standing) (r .mode)) block-here in
+        let fits = takes r _ _ (record { range = range; line-fits = framed .length; streams = fit }) in
         let state = ap (λ (y : Stepped). y .reader) x-is in
         record {
           report = is;
           answer = ap (λ (y : Stepped). y .answer) x-is;
           told =
-              subst (λ (q : Reader). reading.Told r (blockSent e) voice lsd (record { state = q; answer = heard.the-variants.Block is }) v d) (sym state)
-              (taken-is r (blockSent e) voice lsd p v d fits refl v-is d-is);
+              subst (λ (q : Reader). reading.Told r (blockSent e) b (record { state = q; answer = heard.the-variants.Block is }) out) (sym state)
+              (taken-is r (blockSent e) b p out fits refl out-is);
           state = state;
           stands = ap (λ (y : Stepped). y .place) x-is;
           lost = ap (λ (y : Stepped). y .lost) x-is ∙ not-lost r (blockSent e) framed;
         }
 
     -- the next block follows
-    next-here : (z : List ℕ) → rest ≡ z → drop (place + 160) recording ≡ z
-    next-here z h = sym (drop-drop 160 place recording) ∙ ap (drop 160) here ∙ drop-at (blockSent e) rest 160 (framed .length) ∙ h
+    next-here : (z : List ℕ) → rest ≡ z → drop (place + lineOctets) recording ≡ z
+    next-here z h = sym (drop-drop lineOctets place recording) ∙ ap (drop lineOctets) here ∙ drop-at (blockSent e) rest lineOctets (framed .length) ∙ h
 
     next-range : stateInRange (readerAfter r e) ≡ true
     next-range = step-in-range r (blockSent e) range
@@ -231,7 +231,7 @@ all-as-read recording more small (e ∷ es) f place r here range =
     let at = here ∙ append-assoc (blockSent e) (octetsSent es) more in
     let rest = octetsSent es ++ more in (
       as-read recording place r e rest (f .0) at small range,
-      all-as-read recording more small es (f .1) (place + 160) (readerAfter r e)
+      all-as-read recording more small es (f .1) (place + lineOctets) (readerAfter r e)
           (next-here recording place r e rest (f .0) at small range rest refl)
           (next-range recording place r e rest (f .0) at small range),
     )
@@ -245,13 +245,13 @@ all-steps-back : (recording : List ℕ) (es : List Entry) (place : ℕ) (r : Rea
     → AllStepsBack recording place r es
 all-steps-back recording [] place r a b = tt
 all-steps-back recording (e ∷ es) place r a b = (
-  λ voice lsd x v d hv hd ex ev ed.
-      let read = a .0 voice lsd x v d hv hd ex ev ed in
-      let back = b .0 .hands voice lsd _ v d hv hd (read .told) in
+  λ c x out fit ex ec.
+      let read = a .0 c x out fit ex ec in
+      let back = b .0 .hands c _ out fit (read .told) in
       let told = back .answer in
       let same : read .report ≡ back .report = cc in
       record { outcome = _; back = back; answer = read .answer ∙ ap walked.the-variants.Block same },
-  all-steps-back recording es (place + 160) (readerAfter r e) (a .1) (b .1),
+  all-steps-back recording es (place + lineOctets) (readerAfter r e) (a .1) (b .1),
 )
 
 pub walk-stays-in-step : WalkStaysInStep
@@ -265,11 +265,9 @@ walked-on : (n : ℕ) (recording : List ℕ) (es : List Entry) (place : ℕ) (r 
 walked-on zero recording es place r a h = refl
 walked-on (suc n) recording [] place r a h = absurd (omega arith)
 walked-on (suc n) recording (e ∷ es) place r a h =
-    let voice : List ℕ = replicate 140 0 in
-    let lsd : List ℕ = replicate 156 0 in
-    let x = a .0 voice lsd (lookAt recording place false r) (voiceAt recording place false r voice lsd) (lsdAt recording place false r voice lsd)
-    refl refl (look-step recording place false r voice lsd refl refl) refl refl in
-    rw (x .stands, x .lost, x .state) (walked-on n recording es (place + 160) (readerAfter r e) (a .1) (omega arith))
+    let x = a .0 zeroed (lookAt recording place false r) (buffersAt recording place false r zeroed) refl
+    (look-step recording place false r zeroed refl) refl in
+    rw (x .stands, x .lost, x .state) (walked-on n recording es (place + lineOctets) (readerAfter r e) (a .1) (omega arith))
 
 pub walk-comes-into-step : WalkComesIntoStep
 walk-comes-into-step s r xs before more range bits waits small enough none same =

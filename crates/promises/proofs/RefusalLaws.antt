@@ -28,41 +28,43 @@ use Rattle.search.specs.declared.Found.{Found}
 use Rattle.recording.specs.Refusals as walk-list
 use Rattle.recording.specs.Walk as walk
 use Rattle.recording.specs.declared.Answer.the-variants.{End}
+use Rattle.buffers.specs.Buffers.{Buffers, lengths}
+use Rattle.buffers.specs.Lengths.{lineOctets}
 use Rattle.promises.specs.Demand1.{first, sendingRows, Sending, Reading, somewhere, Searching, Stepping, ReadingPreset, WritingPreset}
 use Rattle.promises.proofs.RuleLaws.{rule-due, rule-plain}
 
-sending-number : (s : Sender) (c : Call) (voice lsd line : List ℕ)
-    → rulingNumber (sending.ruled s c voice lsd line) ≡ first (sendingRows s c voice lsd line)
+sending-number : (s : Sender) (c : Call) (b : Buffers) (line : List ℕ)
+    → rulingNumber (sending.ruled s c b line) ≡ first (sendingRows s c b line)
 unfolding sender-list.rulingOf
-sending-number s c voice lsd line =
-    number-is (sender-list.rows s c (length line) (length voice) (length lsd)) ∙ rw (rule-plain s c, rule-due s (c .mute))
+sending-number s c b line =
+    number-is (sender-list.rows s c (length line) (lengths b)) ∙ rw (rule-plain s c, rule-due s (c .mute))
 
 pub sending-refuses : Sending
-sending-refuses s c voice lsd line r l t =
+sending-refuses s c b line r l t =
     record {
       ordered = refl;
-      exact = t .number ∙ sending-number s c voice lsd line;
-      kept = go (sending.ruled s c voice lsd line) refl;
+      exact = t .number ∙ sending-number s c b line;
+      kept = go (sending.ruled s c b line) refl;
     }
   where
-    go : (q : Ruling) → sending.ruled s c voice lsd line ≡ q → (sender-list.numberIn (r .answer) ≡ 0 → ⊥) → (r .state ≡ s) × (l ≡ line)
+    go : (q : Ruling) → sending.ruled s c b line ≡ q → (sender-list.numberIn (r .answer) ≡ 0 → ⊥) → (r .state ≡ s) × (l ≡ line)
     go (Refuse why) e h =
-        let still = refused-is s c voice lsd line why e in
+        let still = refused-is s c b line why e in
         (rw (t .outcome, still .0), t .octets ∙ still .1)
     go Accept e h = absurd (h (t .number ∙ ap rulingNumber e))
 
 pub reading-refuses : Reading
-unfolding reading.outcomeOf reading.voiceOf reading.lsdOf reader-list.rulingOf
-reading-refuses s line voice lsd r v d t =
+unfolding reading.outcomeOf reading.buffersOf reader-list.rulingOf
+reading-refuses s line b r out t =
     record {
       ordered = refl;
-      exact = t .number ∙ number-is (reader-list.rows s (length line) (length voice) (length lsd));
-      kept = go (reading.ruled s line voice lsd) refl;
+      exact = t .number ∙ number-is (reader-list.rows s (length line) (lengths b));
+      kept = go (reading.ruled s line b) refl;
     }
   where
-    go : (q : Ruling) → reading.ruled s line voice lsd ≡ q → (reader-list.numberIn (r .answer) ≡ 0 → ⊥)
-        → (r .state ≡ s) × (v ≡ voice) × (d ≡ lsd)
-    go (Refuse why) e h = (rw (t .outcome, e), rw (t .heard, e), rw (t .given, e))
+    go : (q : Ruling) → reading.ruled s line b ≡ q → (reader-list.numberIn (r .answer) ≡ 0 → ⊥)
+        → (r .state ≡ s) × (out ≡ b)
+    go (Refuse why) e h = (rw (t .outcome, e), rw (t .handed, e))
     go Accept e h = absurd (h (rw (t .outcome, e)))
 
 -- ---- the search goes through the places one by one, and so does the test for some place
@@ -98,7 +100,7 @@ searching-refuses recording start r e =
 -- ---- where no row of a step is given, its answer is no refusal
 module _ (recording : List ℕ) (place : ℕ) (lost : Bool) (s : Reader) where
   here-number : walk-list.numberIn (walk.answerHere recording place lost s) ≡ 0
-  here-number = go lost (finding.searchOf recording place) (ltb (walk.leftFrom recording place) 160)
+  here-number = go lost (finding.searchOf recording place) (ltb (walk.leftFrom recording place) lineOctets)
     where
       go : (l : Bool) (f : Found) (few : Bool)
           → walk-list.numberIn (cond l (walk.foundAgain f (walk.leftFrom recording place)) (cond few (End (walk.leftFrom recording place)) (walk.blockRead s recording place))) ≡ 0
@@ -113,20 +115,20 @@ module _ (recording : List ℕ) (place : ℕ) (lost : Bool) (s : Reader) where
   step-number Accept = here-number
 
 pub stepping-refuses : Stepping
-unfolding walk.stepAt walk.voiceAt walk.lsdAt walk.answerAt walk-list.rulingOf
-stepping-refuses recording place lost s voice lsd r v d er ev ed =
+unfolding walk.stepAt walk.buffersAt walk.answerAt walk-list.rulingOf
+stepping-refuses recording place lost s b r out er eb =
     record {
       ordered = refl;
       exact = rw er
-          (step-number recording place lost s (walk-list.rulingOf (length recording) place s (length voice) (length lsd))
-          ∙ number-is (walk-list.rows (length recording) place s (length voice) (length lsd)));
-      kept = go (walk-list.rulingOf (length recording) place s (length voice) (length lsd)) refl;
+          (step-number recording place lost s (walk-list.rulingOf (length recording) place s (lengths b))
+          ∙ number-is (walk-list.rows (length recording) place s (lengths b)));
+      kept = go (walk-list.rulingOf (length recording) place s (lengths b)) refl;
     }
   where
-    go : (q : Ruling) → walk-list.rulingOf (length recording) place s (length voice) (length lsd) ≡ q
+    go : (q : Ruling) → walk-list.rulingOf (length recording) place s (lengths b) ≡ q
         → (walk-list.numberIn (r .answer) ≡ 0 → ⊥)
-        → (r .reader ≡ s) × (r .place ≡ place) × (r .lost ≡ lost) × (v ≡ voice) × (d ≡ lsd)
-    go (Refuse why) e h = (rw (er, e), rw (er, e), rw (er, e), rw (ev, e), rw (ed, e))
+        → (r .reader ≡ s) × (r .place ≡ place) × (r .lost ≡ lost) × (out ≡ b)
+    go (Refuse why) e h = (rw (er, e), rw (er, e), rw (er, e), rw (eb, e))
     go Accept e h = absurd (h (rw (er, e) (here-number recording place lost s)))
 
 pub reading-preset-refuses : ReadingPreset

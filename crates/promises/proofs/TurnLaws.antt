@@ -16,6 +16,7 @@ use Rattle.refusals.specs.declared.Ruling.{Ruling}
 use Rattle.refusals.specs.declared.Ruling.the-variants.{Refuse, Accept}
 use Rattle.control.specs.declared.Answer.the-variants.{Refused}
 use Rattle.control.proofs.GoesLaws.{Goes, goes}
+use Rattle.buffers.specs.Buffers.{lengths}
 use Rattle.promises.specs.Session.{Turn, turned, after, log, entryOf}
 
 pub record Stayed (s : Sender) (x : Turn) : Type 0 where
@@ -26,20 +27,20 @@ pub record Stayed (s : Sender) (x : Turn) : Type 0 where
 
 -- `goes` says that the state is in range and the three lengths; the rule is that of the state and mute
 pub record Went (s : Sender) (x : Turn) (rule : Rule) : Type 0 where
-  pub goes : Goes s (x .call) (length (x .line)) (length (x .voice)) (length (x .lsd))
+  pub goes : Goes s (x .call) (length (x .line)) (lengths (x .lent))
   pub rule-is : rule ≡ ruleOf s (x .call .mute)
   pub answer : (turned s x) .outcome .answer ≡ (planBy rule s (x .call .code)) .answer
   pub state : after s x ≡ withRemainder (nextBy (planBy rule s (x .call .code)) s) (blockCrcOf ((turned s x) .line))
-  pub line : (turned s x) .line ≡ blockFor s (x .call) ((planBy rule s (x .call .code)) .word) (x .voice) (x .lsd)
+  pub line : (turned s x) .line ≡ blockFor s (x .call) ((planBy rule s (x .call .code)) .word) (x .lent)
 
 pub turn-cases : (s : Sender) (x : Turn) → Stayed s x ⊎ ((rule : Rule) × Went s x rule)
 unfolding turned outcomeOf lineOf decisionOf
-turn-cases s x = go (ruled s (x .call) (x .voice) (x .lsd) (x .line)) refl
+turn-cases s x = go (ruled s (x .call) (x .lent) (x .line)) refl
   where
-    go : (q : Ruling) → ruled s (x .call) (x .voice) (x .lsd) (x .line) ≡ q → Stayed s x ⊎ ((rule : Rule) × Went s x rule)
+    go : (q : Ruling) → ruled s (x .call) (x .lent) (x .line) ≡ q → Stayed s x ⊎ ((rule : Rule) × Went s x rule)
     go (Refuse r) e = inl (record { why = r; answer = rw e; state = rw (e, after); line = rw e })
     go Accept e =
-        inr (ruleOf s (x .call .mute), record { goes = goes s (x .call) _ _ _ e; rule-is = refl; answer = rw e; state = rw (e, after); line = rw e })
+        inr (ruleOf s (x .call .mute), record { goes = goes s (x .call) _ _ e; rule-is = refl; answer = rw e; state = rw (e, after); line = rw e })
 
 -- ---- the log after a call that is refused, and after one whose word goes
 pub log-stayed : (s : Sender) (x : Turn) (xs : List Turn) → Stayed s x → log s (x ∷ xs) ≡ log s xs

@@ -19,6 +19,7 @@ use Rattle.control.specs.declared.Call.{Call}
 use Rattle.sender.specs.declared.Outcome as sent
 use Rattle.presets.specs.declared.PresetRead.{PresetRead}
 use Rattle.presets.specs.declared.PresetWritten.{PresetWritten}
+use Rattle.buffers.specs.Buffers.{Buffers}
 use Rattle.track.specs.State as reader
 use Rattle.reader.specs.Refusals as reader-list
 use Rattle.reader.specs.Step as reading
@@ -27,7 +28,7 @@ use Rattle.reader.specs.declared.Outcome as read
 use Rattle.search.specs.Finding as finding
 use Rattle.search.specs.declared.Found.{Found}
 use Rattle.recording.specs.Refusals as walk-list
-use Rattle.recording.specs.Walk.{stepAt, voiceAt, lsdAt}
+use Rattle.recording.specs.Walk.{stepAt, buffersAt}
 use Rattle.recording.specs.declared.Stepped.{Stepped}
 
 -- a row of the list: its number, and whether it is given
@@ -59,12 +60,12 @@ held s c = not (itemDue s) && (c .mute && sounding s || not (c .mute) && not (so
 abbrev pub plain : Sender → Call → Bool
 plain s c = not (held s c) && not (itemDue s)
 
-abbrev pub sendingRows : Sender → Call → List ℕ → List ℕ → List ℕ → List Row
-sendingRows s c voice lsd line =
+abbrev pub sendingRows : Sender → Call → Buffers → List ℕ → List Row
+sendingRows s c b line =
     row 1 (not (sender.stateInRange s))
     ∷ row 2 (not (eqb (length line) 160))
-    ∷ row 3 (not (eqb (length voice) 140))
-    ∷ row 4 (not (eqb (length lsd) 156))
+    ∷ row 3 (not (eqb (length (b .voice)) 140))
+    ∷ row 4 (not (eqb (length (b .lsd)) 156))
     ∷ row 5 (plain s c && not (senderCarries (c .code)))
     ∷ row 6 (itemDue s && eqb (attribute (c .code)) 0b111)
     ∷ row 7 (plain s c && sender-list.isAudio (c .code) && c .mute)
@@ -72,23 +73,23 @@ sendingRows s c voice lsd line =
     ∷ []
 
 abbrev pub Sending : Type 0
-Sending = (s : Sender) (c : Call) (voice lsd line : List ℕ) (r : sent.Outcome) (l : List ℕ)
-    → sending.Told s c voice lsd line r l
-    → Refuses (sender-list.numberIn (r .answer)) (sendingRows s c voice lsd line) ((r .state ≡ s) × (l ≡ line))
+Sending = (s : Sender) (c : Call) (b : Buffers) (line : List ℕ) (r : sent.Outcome) (l : List ℕ)
+    → sending.Told s c b line r l
+    → Refuses (sender-list.numberIn (r .answer)) (sendingRows s c b line) ((r .state ≡ s) × (l ≡ line))
 
 -- ---- `reader::read`: rows 1 to 4
-abbrev pub readingRows : Reader → List ℕ → List ℕ → List ℕ → List Row
-readingRows s line voice lsd =
+abbrev pub readingRows : Reader → List ℕ → Buffers → List Row
+readingRows s line b =
     row 1 (not (reader.stateInRange s))
     ∷ row 2 (not (eqb (length line) 160))
-    ∷ row 3 (not (eqb (length voice) 140))
-    ∷ row 4 (not (eqb (length lsd) 156))
+    ∷ row 3 (not (eqb (length (b .voice)) 140))
+    ∷ row 4 (not (eqb (length (b .lsd)) 156))
     ∷ []
 
 abbrev pub Reading : Type 0
-Reading = (s : Reader) (line voice lsd : List ℕ) (r : read.Outcome) (v d : List ℕ)
-    → reading.Told s line voice lsd r v d
-    → Refuses (reader-list.numberIn (r .answer)) (readingRows s line voice lsd) ((r .state ≡ s) × (v ≡ voice) × (d ≡ lsd))
+Reading = (s : Reader) (line : List ℕ) (b : Buffers) (r : read.Outcome) (out : Buffers)
+    → reading.Told s line b r out
+    → Refuses (reader-list.numberIn (r .answer)) (readingRows s line b) ((r .state ≡ s) × (out ≡ b))
 
 -- ---- `search::search`: rows 9 and 10; it is lent nothing that it could change
 -- alignment stands at the first octet of this part of a recording, or at a later one
@@ -108,21 +109,20 @@ Searching = (recording : List ℕ) (start : ℕ) (r : Found) → r ≡ finding.s
     → Refuses (finding.foundNumber r) (searchingRows recording start) (Unit {0})
 
 -- ---- `recording::step`: rows 1, 3, 4 and 9
-abbrev pub steppingRows : List ℕ → ℕ → Reader → List ℕ → List ℕ → List Row
-steppingRows recording place s voice lsd =
+abbrev pub steppingRows : List ℕ → ℕ → Reader → Buffers → List Row
+steppingRows recording place s b =
     row 1 (not (reader.stateInRange s))
-    ∷ row 3 (not (eqb (length voice) 140))
-    ∷ row 4 (not (eqb (length lsd) 156))
+    ∷ row 3 (not (eqb (length (b .voice)) 140))
+    ∷ row 4 (not (eqb (length (b .lsd)) 156))
     ∷ row 9 (ltb 65536 (length recording) || ltb (length recording) place)
     ∷ []
 
 abbrev pub Stepping : Type 0
-Stepping = (recording : List ℕ) (place : ℕ) (lost : Bool) (s : Reader) (voice lsd : List ℕ) (r : Stepped) (v d : List ℕ)
-    → r ≡ stepAt recording place lost s voice lsd
-    → v ≡ voiceAt recording place lost s voice lsd
-    → d ≡ lsdAt recording place lost s voice lsd
-    → Refuses (walk-list.numberIn (r .answer)) (steppingRows recording place s voice lsd)
-    ((r .reader ≡ s) × (r .place ≡ place) × (r .lost ≡ lost) × (v ≡ voice) × (d ≡ lsd))
+Stepping = (recording : List ℕ) (place : ℕ) (lost : Bool) (s : Reader) (b : Buffers) (r : Stepped) (out : Buffers)
+    → r ≡ stepAt recording place lost s b
+    → out ≡ buffersAt recording place lost s b
+    → Refuses (walk-list.numberIn (r .answer)) (steppingRows recording place s b)
+    ((r .reader ≡ s) × (r .place ≡ place) × (r .lost ≡ lost) × (out ≡ b))
 
 -- ---- `presets::read_preset`: row 11; `presets::write_preset`: row 1. Neither is lent anything or gives back a state that it took
 abbrev pub ReadingPreset : Type 0

@@ -13,6 +13,8 @@ use Rattle.crc.specs.Crc.{blockCrcOf}
 use Rattle.bas.specs.Words as bas
 use Rattle.bas.specs.Reading.{weight, readingOf}
 use Rattle.bas.specs.declared.Word.the-variants.{Code}
+use Rattle.buffers.specs.Buffers.{Buffers, lengths}
+use Rattle.buffers.specs.Lengths.{streamOctets}
 use Rattle.modes.specs.Numbers.{following}
 use Rattle.modes.specs.Owners.{heldBy, bitsPerFrame}
 use Rattle.modes.specs.Modes.{audioOff, off, mode}
@@ -64,13 +66,13 @@ wordTold Held mute s code = written audioAttribute (cond mute audioOff (s .chose
 wordTold (Refused r) mute s code = 0
 
 -- the word of an accepted call
-abbrev pub wordOf : Entry → ℕ
-wordOf e = wordTold (answerTo e) (e .turn .call .mute) (e .found) (e .turn .call .code)
+abbrev pub wordSent : Entry → ℕ
+wordSent e = wordTold (answerTo e) (e .turn .call .mute) (e .found) (e .turn .call .code)
 
 -- an accepted call writes the block that 01 lays down for its word, cut by the mode that the call finds
 abbrev pub LaidDown : Entry → Type 0
 LaidDown e =
-    blockSent e ≡ blockOf (e .found .mode) (headerFor (e .found) (e .turn .call) (wordOf e)) (e .turn .call .mute) (e .turn .voice) (e .turn .lsd)
+    blockSent e ≡ blockOf (e .found .mode) (headerFor (e .found) (e .turn .call) (wordSent e)) (e .turn .call .mute) (e .turn .lent)
 
 -- what an offered command makes of the chosen audio
 abbrev pub chosenBy : Command → ℕ → ℕ
@@ -92,9 +94,9 @@ commanded (Words left) word m = m
 pub record GoesOn (e : Entry) (s : Sender) : Type 0 where
   pub number : s .block ≡ following (e .found .block)
   pub remainder : s .remainder ≡ blockCrcOf (blockSent e)
-  pub mode : s .mode ≡ commanded (wordDue (e .found)) (wordOf e) (e .found .mode)
+  pub mode : s .mode ≡ commanded (wordDue (e .found)) (wordSent e) (e .found .mode)
   pub chosen : s .chosen ≡ cond (plain (e .found) (e .turn .call)) (chosenBy (commandOf (e .turn .call .code)) (e .found .chosen)) (e .found .chosen)
-  pub due : wordDue s ≡ dueAfter (wordDue (e .found)) (Code (wordOf e))
+  pub due : wordDue s ≡ dueAfter (wordDue (e .found)) (Code (wordSent e))
 
 -- block after block: each is answered by what went, is laid down, and finds what the one before left
 abbrev pub BlockAfterBlock : Sender → List Entry → Type 0
@@ -149,29 +151,29 @@ counting o m = 2 * bitsPerFrame (heldBy m o)
 abbrev pub voiceBits : Entry → List Bool
 voiceBits e =
     let n = counting Voice (e .found .mode) in
-    cond (e .turn .call .mute) (replicate n true) (take n (bitsOf (e .turn .voice)))
+    cond (e .turn .call .mute) (replicate n true) (take n (bitsOf (e .turn .lent .voice)))
 
 -- each data bit
 abbrev pub lsdBits : Entry → List Bool
-lsdBits e = take (counting Lsd (e .found .mode)) (bitsOf (e .turn .lsd))
+lsdBits e = take (counting Lsd (e .found .mode)) (bitsOf (e .turn .lent .lsd))
 
 -- whatever the reader's contract allows, with buffers of the right lengths: the block is read; its word is the word sent, under the
 -- reading that its slot gives it; voice and data are the sender's, and zeros after them; every verdict but a first is good once the
 -- remainder agrees
-pub record HandedBack (e : Entry) (r : Reader) (o : Outcome) (voice lsd : List ℕ) : Type 0 where
+pub record HandedBack (e : Entry) (r : Reader) (o : Outcome) (out : Buffers) : Type 0 where
   pub report : Report
   pub answer : o .answer ≡ Block report
   pub read : report .standing ≡ Read
-  pub word : report .reading ≡ readingIn (wordDue (e .found)) (Code (wordOf e))
+  pub word : report .reading ≡ readingIn (wordDue (e .found)) (Code (wordSent e))
   pub first : r .before ≡ 0 → report .verdict ≡ None
   pub good : Agrees (e .found) r → report .verdict ≡ Good
-  pub heard : voice ≡ octets 140 (voiceBits e)
-  pub given : lsd ≡ octets 156 (lsdBits e)
+  pub heard : out .voice ≡ octets (streamOctets .voice) (voiceBits e)
+  pub given : out .lsd ≡ octets (streamOctets .lsd) (lsdBits e)
   pub state : o .state ≡ readerAfter r e
 
 pub record Back (e : Entry) (r : Reader) : Type 0 where
-  pub hands : (voice lsd : List ℕ) (o : Outcome) (v d : List ℕ) → length voice ≡ 140 → length lsd ≡ 156
-      → reading.Told r (blockSent e) voice lsd o v d → HandedBack e r o v d
+  pub hands : (b : Buffers) (o : Outcome) (out : Buffers) → lengths b ≡ streamOctets
+      → reading.Told r (blockSent e) b o out → HandedBack e r o out
   pub step : InStep (after (e .found) (e .turn)) (readerAfter r e)
   pub agrees : Agrees (after (e .found) (e .turn)) (readerAfter r e)
 
@@ -245,4 +247,4 @@ ComesIntoStep = (s : Sender) (r : Reader) (xs : List Turn) → sending.stateInRa
 abbrev pub JoinsAtNeutral : Type 0
 JoinsAtNeutral = (s : Sender) (r : Reader) (x : Turn) → x .call .code < 256 → accepted ((turned s x) .outcome .answer) ≡ true
     → (let e = entryOf s x in
-    Placed s r → wordDue s ≡ Plain → wordOf e ≡ neutral → InStep (after s x) (readerAfter r e))
+    Placed s r → wordDue s ≡ Plain → wordSent e ≡ neutral → InStep (after s x) (readerAfter r e))

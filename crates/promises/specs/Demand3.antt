@@ -16,6 +16,7 @@ use Rattle.slots.specs.declared.Due.the-variants.{Plain}
 use Rattle.slots.specs.declared.Reading.the-variants.{Mended}
 use Rattle.track.specs.declared.Reader.{Reader}
 use Rattle.reader.specs.declared.Outcome.{Outcome}
+use Rattle.buffers.specs.Buffers.{Buffers}
 use Rattle.promises.specs.Demand2.{answerTo, InStep, readerAfter, HandedBack, EightBits}
 use Rattle.promises.specs.Session.{Turn, Left, turned, after, Allowed, Entry, log}
 
@@ -26,10 +27,10 @@ silent s c = c .mute || not (sounding s)
 -- two calls that differ only in microphone contents (never length), and only where the block is silent
 pub record AlikeTurn (s : Sender) (x y : Turn) : Type 0 where
   pub call : x .call ≡ y .call
-  pub lsd : x .lsd ≡ y .lsd
+  pub lsd : x .lent .lsd ≡ y .lent .lsd
   pub line : x .line ≡ y .line
-  pub lengths : length (x .voice) ≡ length (y .voice)
-  pub heard : silent s (x .call) ≡ false → x .voice ≡ y .voice
+  pub lengths : length (x .lent .voice) ≡ length (y .lent .voice)
+  pub heard : silent s (x .call) ≡ false → x .lent .voice ≡ y .lent .voice
 
 abbrev pub Alike : Sender → List Turn → List Turn → Type 0
 Alike s [] [] = Unit {0}
@@ -53,7 +54,7 @@ pub record MuteGone (e : Entry) : Type 0 where
   pub muted : e .turn .call .mute ≡ true
   pub held : answerTo e ≡ Held
   pub octets : (turned (e .found) (e .turn)) .line
-      ≡ blockFor (e .found) (e .turn .call) (written audioAttribute audioOff) (e .turn .voice) (e .turn .lsd)
+      ≡ blockFor (e .found) (e .turn .call) (written audioAttribute audioOff) (e .turn .lent)
 
 -- one of the first n entries is so, if there are that many
 abbrev pub By : ℕ → (Entry → Type 0) → List Entry → Type 0
@@ -68,7 +69,7 @@ MuteBound = (s : Sender) (xs : List Turn) → sounding s ≡ true → MuteStaysS
 -- where a reader in step reads it: as the command "audio off", which closes the stream
 pub record MuteHeard (e : Entry) (r : Reader) : Type 0 where
   pub gone : MuteGone e
-  pub read : (o : Outcome) (v d : List ℕ) (back : HandedBack e r o v d) → back .report .reading ≡ Mended (written audioAttribute audioOff)
+  pub read : (o : Outcome) (out : Buffers) (back : HandedBack e r o out) → back .report .reading ≡ Mended (written audioAttribute audioOff)
   pub closed : (readerAfter r e) .mode .audio ≡ audioOff
 
 abbrev pub HeardBy : ℕ → Reader → List Entry → Type 0

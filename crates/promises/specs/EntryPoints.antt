@@ -20,13 +20,15 @@ use Rattle.reader.specs.Step as reading
 use Rattle.track.specs.declared.Reader.{Reader}
 use Rattle.reader.specs.declared.Outcome as read
 use Rattle.recording.specs.Refusals as walk-list
-use Rattle.recording.specs.Walk.{stepAt, lookAt, voiceAt, lsdAt}
+use Rattle.recording.specs.Walk.{stepAt, lookAt, buffersAt}
 use Rattle.recording.specs.declared.Stepped.{Stepped}
 use Rattle.walk.specs.Walks.{onward}
 use Rattle.walk.specs.declared.Walk.{Walk}
 use Rattle.walk.specs.declared.Onward.{Onward}
-use Rattle.lines.specs.Listing.{numberLine, listingOf}
-use Rattle.card.specs.Sending.{SendTold}
+use Rattle.lines.specs.Lines.{numberLine}
+use Rattle.scribe.specs.Listing.{listingOf}
+use Rattle.buffers.specs.Buffers.{Buffers}
+use Rattle.card.specs.Sending.{callOf, SendTold}
 use Rattle.card.specs.Reading.{ReadTold}
 use Rattle.answers.specs.Answers.{searchAnswerOf}
 use Rattle.card.specs.Walking.{StepTold}
@@ -59,12 +61,11 @@ WalkLooking = (recording : List ℕ) (place : ℕ) (lost : Bool) (s : Reader) (r
 -- ---- `walk::step` and `walk::look`, over a walk that holds its recording. `walk::step_from` has the contract of `recording::step`, so
 -- `Stepping` is said of it too
 abbrev pub StepOfWalk : Type 0
-StepOfWalk = (w : Walk) (s : Reader) (voice lsd : List ℕ) (r : Onward) (v d : List ℕ)
-    → r ≡ onward w (stepAt (now (w .recording)) (w .place) (w .lost) s voice lsd)
-    → v ≡ voiceAt (now (w .recording)) (w .place) (w .lost) s voice lsd
-    → d ≡ lsdAt (now (w .recording)) (w .place) (w .lost) s voice lsd
-    → Refuses (walk-list.numberIn (r .answer)) (steppingRows (now (w .recording)) (w .place) s voice lsd)
-    ((r .walk ≡ w) × (r .reader ≡ s) × (v ≡ voice) × (d ≡ lsd))
+StepOfWalk = (w : Walk) (s : Reader) (b : Buffers) (r : Onward) (out : Buffers)
+    → r ≡ onward w (stepAt (now (w .recording)) (w .place) (w .lost) s b)
+    → out ≡ buffersAt (now (w .recording)) (w .place) (w .lost) s b
+    → Refuses (walk-list.numberIn (r .answer)) (steppingRows (now (w .recording)) (w .place) s b)
+    ((r .walk ≡ w) × (r .reader ≡ s) × (out ≡ b))
 
 abbrev pub LookOfWalk : Type 0
 LookOfWalk = (w : Walk) (s : Reader) (r : Onward) → r ≡ onward w (lookAt (now (w .recording)) (w .place) (w .lost) s)
@@ -85,16 +86,16 @@ callInC mute code a e t = record { mute = yes mute; code = code; a = yes a; e = 
 
 -- `delampuk_send`: kind 2 is refused, 1 held and 0 sent
 abbrev pub SendingInC : Type 0
-SendingInC = (s : Sender) (mute code a e t : ℕ) (voice lsd line : List ℕ) (r : SendAnswer) (next : Sender) (l : List ℕ)
-    → SendTold s mute code a e t voice lsd line r next l
-    → RefusesInC (r .kind) 2 (r .number) (sendingRows s (callInC mute code a e t) voice lsd line) ((next ≡ s) × (l ≡ line))
+SendingInC = (s : Sender) (mute code a e t : ℕ) (b : Buffers) (line : List ℕ) (r : SendAnswer) (next : Sender) (l : List ℕ)
+    → SendTold s (callOf mute code a e t) b line r next l
+    → RefusesInC (r .kind) 2 (r .number) (sendingRows s (callInC mute code a e t) b line) ((next ≡ s) × (l ≡ line))
     × (r .number ≡ 0 → r .kind ≡ cond (held s (callInC mute code a e t)) 1 0)
 
 -- `delampuk_read`: kind 1 is refused
 abbrev pub ReadingInC : Type 0
-ReadingInC = (s : Reader) (line voice lsd : List ℕ) (r : ReadOutcome) (v d : List ℕ)
-    → ReadTold s line voice lsd r v d
-    → RefusesInC (r .answer .kind) 1 (r .answer .number) (readingRows s line voice lsd) ((r .state ≡ s) × (v ≡ voice) × (d ≡ lsd))
+ReadingInC = (s : Reader) (line : List ℕ) (b : Buffers) (r : ReadOutcome) (out : Buffers)
+    → ReadTold s line b r out
+    → RefusesInC (r .answer .kind) 1 (r .answer .number) (readingRows s line b) ((r .state ≡ s) × (out ≡ b))
 
 -- `delampuk_search`: where it does not refuse, its place is the one that the search found
 abbrev pub SearchingInC : Type 0
@@ -103,10 +104,10 @@ SearchingInC = (recording : List ℕ) (start : ℕ) (r : SearchAnswer) → r ≡
 
 -- `delampuk_step`: kind 3 is refused, and then the mark comes back as it was too
 abbrev pub SteppingInC : Type 0
-SteppingInC = (recording : List ℕ) (place mark : ℕ) (s : Reader) (voice lsd : List ℕ) (r : StepOutcome) (v d : List ℕ)
-    → StepTold recording place mark s voice lsd r v d
-    → RefusesInC (r .answer .kind) 3 (r .answer .number) (steppingRows recording place s voice lsd)
-    ((r .reader ≡ s) × (r .place ≡ place) × (r .lost ≡ mark) × (v ≡ voice) × (d ≡ lsd))
+SteppingInC = (recording : List ℕ) (place mark : ℕ) (s : Reader) (b : Buffers) (r : StepOutcome) (out : Buffers)
+    → StepTold recording place mark s b r out
+    → RefusesInC (r .answer .kind) 3 (r .answer .number) (steppingRows recording place s b)
+    ((r .reader ≡ s) × (r .place ≡ place) × (r .lost ≡ mark) × (out ≡ b))
 
 -- `delampuk_read_preset` and `delampuk_write_preset`
 abbrev pub ReadingPresetInC : Type 0
@@ -117,7 +118,7 @@ abbrev pub WritingPresetInC : Type 0
 WritingPresetInC = (s : Sender) (r : PresetBits) → r ≡ presetBitsOf (presetWritten s)
     → Refuses (r .number) (row 1 (not (sender.stateInRange s)) ∷ []) (Unit {0})
 
--- ---- `lines::list` and `delampuk_list` refuse nothing: they take every recording and every text, and the listing says which row of a
+-- ---- `scribe::list` and `delampuk_list` refuse nothing: they take every recording and every text, and the listing says which row of a
 -- search is given
 pub record Lists (recording text : List ℕ) (r : ℕ) (t : List ℕ) : Type 0 where
   -- line 1 is "none" and the refusal number, and then nothing more

@@ -13,6 +13,8 @@ use Rattle.control.specs.Refusals.{numberIn}
 use Rattle.sender.specs.Step.{outcomeOf}
 use Rattle.control.specs.declared.Sender.{Sender}
 use Rattle.control.specs.declared.Call.{Call}
+use Rattle.buffers.specs.Buffers.{each}
+use Rattle.buffers.specs.Lengths.{lineOctets, streamOctets}
 
 -- what the definitions give, and what document 01 says
 pub record Figure : Type 0 where
@@ -31,8 +33,8 @@ abbrev oddSent : ℕ → ℕ
 oddSent code = number (drop 8 (lineOrder (wordBits code)))
 
 -- octets that are 0
-abbrev zeros : ℕ → List ℕ
-zeros n = replicate n 0
+abbrev nulls : ℕ → List ℕ
+nulls n = replicate n 0
 
 -- data [5] is in force, audio is off, and no item is due; it is in range, or the numbers below would be 1
 abbrev withData5 : Sender
@@ -44,7 +46,7 @@ offering audio = record { mute = false; code = written audioAttribute audio; a =
 
 -- the refusal number of that call, 0 where it is accepted
 abbrev refusal : ℕ → ℕ
-refusal audio = numberIn ((outcomeOf withData5 (offering audio) (zeros 140) (zeros 156) (zeros 160)) .answer)
+refusal audio = numberIn ((outcomeOf withData5 (offering audio) (each (nulls (streamOctets .voice)) (nulls (streamOctets .lsd))) (nulls lineOctets)) .answer)
 
 unfoldable pub figures : List Figure
 figures =
@@ -54,10 +56,10 @@ figures =
     -- 1F is sent
     ∷ (evenSent 0x1F is 0b01001111) ∷ (oddSent 0x1F is 0b00010001)
     -- CRC of a block all 0; only its last bit 1; last but one; first
-    ∷ (blockCrcOf (zeros 160) is 0b0000)
-    ∷ (blockCrcOf (zeros 159 ++ 0b00000001 ∷ []) is 0b0011)
-    ∷ (blockCrcOf (zeros 159 ++ 0b00000010 ∷ []) is 0b0110)
-    ∷ (blockCrcOf (0b10000000 ∷ zeros 159) is 0b0101)
+    ∷ (blockCrcOf (nulls 160) is 0b0000)
+    ∷ (blockCrcOf (nulls 159 ++ 0b00000001 ∷ []) is 0b0011)
+    ∷ (blockCrcOf (nulls 159 ++ 0b00000010 ∷ []) is 0b0110)
+    ∷ (blockCrcOf (0b10000000 ∷ nulls 159) is 0b0101)
     -- audio of w=6 with data [5] accepted; audio of w=7 with [5] refused 8
     ∷ (refusal 20 is 0) ∷ (refusal 21 is 0) ∷ (refusal 25 is 0)
     ∷ (refusal 18 is 8) ∷ (refusal 19 is 8) ∷ (refusal 24 is 8)

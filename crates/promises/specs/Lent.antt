@@ -3,7 +3,6 @@
 use mathlib.Core.Path.{_≡_}
 use mathlib.Core.List.{List, [], _∷_, map}
 use Prim.Native.Nat.{ℕ}
-use lib.ListN.{length}
 use Rattle.bits.specs.Bits.{octets}
 use Rattle.bas.specs.declared.Word.the-variants.{Code}
 use Rattle.slots.specs.Readings.{readingIn, readingKind, readingCode}
@@ -14,12 +13,14 @@ use Rattle.track.specs.declared.Reader.{Reader}
 use Rattle.track.specs.declared.Standing.the-variants.{Read}
 use Rattle.track.specs.declared.Verdict.the-variants.{None, Good}
 use Rattle.answers.specs.Answers.{sendAnswerOf}
-use Rattle.card.specs.Sending.{SendTold}
+use Rattle.buffers.specs.Buffers.{Buffers, lengths}
+use Rattle.buffers.specs.Lengths.{streamOctets}
+use Rattle.card.specs.Sending.{callOf, SendTold}
 use Rattle.card.specs.Reading.{ReadTold}
 use Rattle.card.specs.declared.ReadOutcome.{ReadOutcome}
 use Rattle.answers.specs.declared.SendAnswer.{SendAnswer}
 use Rattle.promises.specs.Session.{Turn, Left, Allowed, Entry, blockSent}
-use Rattle.promises.specs.Demand2.{wordOf, Agrees, readerAfter, voiceBits, lsdBits, Back}
+use Rattle.promises.specs.Demand2.{wordSent, Agrees, readerAfter, voiceBits, lsdBits, Back}
 use Rattle.promises.specs.Demand3.{Alike}
 use Rattle.promises.specs.EntryPoints.{callInC}
 
@@ -30,8 +31,7 @@ pub record Given : Type 0 where
   pub a : ℕ
   pub e : ℕ
   pub t : ℕ
-  pub voice : List ℕ
-  pub lsd : List ℕ
+  pub lent : Buffers
   pub line : List ℕ
 
 -- what it leaves: the lent state, the answer, and the line block
@@ -43,7 +43,7 @@ pub record LeftInC : Type 0 where
 -- each leaves what the contract of `delampuk_send` says
 abbrev pub LeavesInC : Sender → Given → LeftInC → Type 0
 LeavesInC s x l =
-    SendTold s (x .mute) (x .code) (x .a) (x .e) (x .t) (x .voice) (x .lsd) (x .line) (l .answer) (l .state) (l .line)
+    SendTold s (callOf (x .mute) (x .code) (x .a) (x .e) (x .t)) (x .lent) (x .line) (l .answer) (l .state) (l .line)
 
 -- a session that it allows: each call finds the state that the one before left in its place
 abbrev pub AllowedInC : Sender → List Given → List LeftInC → Type 0
@@ -55,7 +55,7 @@ AllowedInC s (x ∷ xs) (l ∷ ls) = LeavesInC s x l × AllowedInC (l .state) xs
 -- the same call by value, and what it leaves, in numbers
 abbrev pub turnOf : Given → Turn
 turnOf x =
-    record { call = callInC (x .mute) (x .code) (x .a) (x .e) (x .t); voice = x .voice; lsd = x .lsd; line = x .line }
+    record { call = callInC (x .mute) (x .code) (x .a) (x .e) (x .t); lent = x .lent; line = x .line }
 
 abbrev pub inC : Left → LeftInC
 inC l = record { state = l .outcome .state; answer = sendAnswerOf (l .outcome .answer); line = l .line }
@@ -72,17 +72,17 @@ LentSilence = (s : Sender) (xs ys : List Given) (ls ms : List LeftInC) → Allow
 -- ---- reading
 -- what a reader in step hands back of a block, in numbers: the block is read, its word is the word sent under the reading that its slot gives
 -- it, voice and data are the sender's, and every verdict but a first is good once the remainder agrees
-pub record BackInC (e : Entry) (r : Reader) (o : ReadOutcome) (voice lsd : List ℕ) : Type 0 where
+pub record BackInC (e : Entry) (r : Reader) (o : ReadOutcome) (out : Buffers) : Type 0 where
   pub accepted : (o .answer .kind ≡ 0) × (o .answer .number ≡ 0)
   pub read : o .answer .block .standing ≡ standingNumber Read
-  pub kind : o .answer .block .reading ≡ readingKind (readingIn (wordDue (e .found)) (Code (wordOf e)))
-  pub code : o .answer .block .code ≡ readingCode (readingIn (wordDue (e .found)) (Code (wordOf e)))
+  pub kind : o .answer .block .reading ≡ readingKind (readingIn (wordDue (e .found)) (Code (wordSent e)))
+  pub code : o .answer .block .code ≡ readingCode (readingIn (wordDue (e .found)) (Code (wordSent e)))
   pub first : r .before ≡ 0 → o .answer .block .verdict ≡ verdictNumber None
   pub good : Agrees (e .found) r → o .answer .block .verdict ≡ verdictNumber Good
-  pub heard : voice ≡ octets 140 (voiceBits e)
-  pub given : lsd ≡ octets 156 (lsdBits e)
+  pub heard : out .voice ≡ octets (streamOctets .voice) (voiceBits e)
+  pub given : out .lsd ≡ octets (streamOctets .lsd) (lsdBits e)
   pub state : o .state ≡ readerAfter r e
 
 abbrev pub ReadBackInC : Type 0
-ReadBackInC = (e : Entry) (r : Reader) → Back e r → (voice lsd : List ℕ) (o : ReadOutcome) (v d : List ℕ) → length voice ≡ 140 → length lsd ≡ 156
-    → ReadTold r (blockSent e) voice lsd o v d → BackInC e r o v d
+ReadBackInC = (e : Entry) (r : Reader) → Back e r → (b : Buffers) (o : ReadOutcome) (out : Buffers) → lengths b ≡ streamOctets
+    → ReadTold r (blockSent e) b o out → BackInC e r o out

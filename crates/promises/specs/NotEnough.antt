@@ -17,7 +17,7 @@ abbrev pub Program : Type 0
 Program = Sender → Turn → Left
 
 abbrev pub Meets : Program → Type 0
-Meets p = (s : Sender) (x : Turn) → Told s (x .call) (x .voice) (x .lsd) (x .line) ((p s x) .outcome) ((p s x) .line)
+Meets p = (s : Sender) (x : Turn) → Told s (x .call) (x .lent) (x .line) ((p s x) .outcome) ((p s x) .line)
 
 abbrev pub Accepts : Program → Sender → Turn → Type 0
 Accepts p s x = accepted ((p s x) .outcome .answer) ≡ true

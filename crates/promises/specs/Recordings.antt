@@ -19,7 +19,9 @@ use Rattle.track.specs.declared.Reader.{Reader}
 use Rattle.track.specs.declared.Report.{Report}
 use Rattle.reader.specs.declared.Answer as read
 use Rattle.reader.specs.declared.Outcome.{Outcome}
-use Rattle.recording.specs.Walk.{stepAt, lookAt, voiceAt, lsdAt}
+use Rattle.buffers.specs.Buffers.{Buffers, lengths}
+use Rattle.buffers.specs.Lengths.{lineOctets, streamOctets}
+use Rattle.recording.specs.Walk.{stepAt, lookAt, buffersAt}
 use Rattle.recording.specs.declared.Answer as walked
 use Rattle.recording.specs.declared.Stepped.{Stepped}
 use Rattle.promises.specs.Session.{Turn, Entry, log, blockSent}
@@ -68,26 +70,25 @@ FindsAlignment = (s : Sender) (xs : List Turn) (before more : List ℕ)
 -- ---- a walk over it
 -- a step over a recorded block: it answers what the reader answers of that block, hands out what the reader hands out, leaves the reader as
 -- the block leaves it, and stands at the block's end, with nothing lost
-pub record AsRead (place : ℕ) (r : Reader) (e : Entry) (voice lsd : List ℕ) (x : Stepped) (v d : List ℕ) : Type 0 where
+pub record AsRead (place : ℕ) (r : Reader) (e : Entry) (b : Buffers) (x : Stepped) (out : Buffers) : Type 0 where
   pub report : Report
   pub answer : x .answer ≡ walked.the-variants.Block report
-  pub told : reading.Told r (blockSent e) voice lsd (record { state = x .reader; answer = read.the-variants.Block report }) v d
+  pub told : reading.Told r (blockSent e) b (record { state = x .reader; answer = read.the-variants.Block report }) out
   pub state : x .reader ≡ readerAfter r e
-  pub stands : x .place ≡ place + 160
+  pub stands : x .place ≡ place + lineOctets
   pub lost : x .lost ≡ false
 
 -- whatever the step's contract allows, with buffers of the right lengths
-abbrev pub Steps : List ℕ → ℕ → Reader → ((voice lsd : List ℕ) → Stepped → List ℕ → List ℕ → Type 0) → Type 0
-Steps recording place r P = (voice lsd : List ℕ) (x : Stepped) (v d : List ℕ) → length voice ≡ 140 → length lsd ≡ 156
-    → x ≡ stepAt recording place false r voice lsd
-    → v ≡ voiceAt recording place false r voice lsd
-    → d ≡ lsdAt recording place false r voice lsd
-    → P voice lsd x v d
+abbrev pub Steps : List ℕ → ℕ → Reader → (Buffers → Stepped → Buffers → Type 0) → Type 0
+Steps recording place r P = (b : Buffers) (x : Stepped) (out : Buffers) → lengths b ≡ streamOctets
+    → x ≡ stepAt recording place false r b
+    → out ≡ buffersAt recording place false r b
+    → P b x out
 
 -- block after block
 abbrev pub AllAsRead : List ℕ → ℕ → Reader → List Entry → Type 0
 AllAsRead recording place r [] = Unit {0}
-AllAsRead recording place r (e ∷ es) = Steps recording place r (AsRead place r e) × AllAsRead recording (place + 160) (readerAfter r e) es
+AllAsRead recording place r (e ∷ es) = Steps recording place r (AsRead place r e) × AllAsRead recording (place + lineOctets) (readerAfter r e) es
 
 abbrev pub WalksAsRead : Type 0
 WalksAsRead = (s : Sender) (r : Reader) (xs : List Turn) (before more : List ℕ) → stateInRange r ≡ true
@@ -96,15 +97,15 @@ WalksAsRead = (s : Sender) (r : Reader) (xs : List Turn) (before more : List ℕ
 
 -- ---- so `StaysInStep` and `ComesIntoStep` hold of recordings
 -- a step hands back what a reader in step hands back
-pub record StepBack (e : Entry) (r : Reader) (x : Stepped) (v d : List ℕ) : Type 0 where
+pub record StepBack (e : Entry) (r : Reader) (x : Stepped) (out : Buffers) : Type 0 where
   pub outcome : Outcome
-  pub back : HandedBack e r outcome v d
+  pub back : HandedBack e r outcome out
   pub answer : x .answer ≡ walked.the-variants.Block (back .report)
 
 abbrev pub AllStepsBack : List ℕ → ℕ → Reader → List Entry → Type 0
 AllStepsBack recording place r [] = Unit {0}
 AllStepsBack recording place r (e ∷ es) =
-    Steps recording place r (λ voice lsd. StepBack e r) × AllStepsBack recording (place + 160) (readerAfter r e) es
+    Steps recording place r (λ b. StepBack e r) × AllStepsBack recording (place + lineOctets) (readerAfter r e) es
 
 abbrev pub WalkStaysInStep : Type 0
 WalkStaysInStep = (s : Sender) (r : Reader) (xs : List Turn) (before more : List ℕ) → EightBits xs → InStep s r

@@ -2,6 +2,7 @@
 use mathlib.Core.Bool.{Bool, true, false}
 use mathlib.Core.List.{List, [], _∷_}
 use Prim.Native.Nat.{ℕ}
+use Rattle.buffers.specs.Buffers.{Buffers}
 use Rattle.sender.specs.Step.{outcomeOf, lineOf, Told}
 use Rattle.control.specs.declared.Sender.{Sender}
 use Rattle.control.specs.declared.Call.{Call}
@@ -9,11 +10,10 @@ use Rattle.control.specs.declared.Answer.{Answer}
 use Rattle.control.specs.declared.Answer.the-variants.{Sent, Held, Refused}
 use Rattle.sender.specs.declared.Outcome.{Outcome}
 
--- a call with what it is lent: voice, data, and the line block as it stood
+-- a call with what it is lent: the streams' buffers, and the line block as it stood
 pub record Turn : Type 0 where
   pub call : Call
-  pub voice : List ℕ
-  pub lsd : List ℕ
+  pub lent : Buffers
   pub line : List ℕ
 
 -- what it leaves: state and answer, and the line block
@@ -23,7 +23,7 @@ pub record Left : Type 0 where
 
 unfoldable pub turned : Sender → Turn → Left
 turned s x =
-    record { outcome = outcomeOf s (x .call) (x .voice) (x .lsd) (x .line); line = lineOf s (x .call) (x .voice) (x .lsd) (x .line) }
+    record { outcome = outcomeOf s (x .call) (x .lent) (x .line); line = lineOf s (x .call) (x .lent) (x .line) }
 
 -- the state that the next call finds
 abbrev pub after : Sender → Turn → Sender
@@ -40,7 +40,7 @@ Allowed s [] [] = Unit {0}
 Allowed s [] (l ∷ ls) = ⊥
 Allowed s (x ∷ xs) [] = ⊥
 Allowed s (x ∷ xs) (l ∷ ls) =
-    Told s (x .call) (x .voice) (x .lsd) (x .line) (l .outcome) (l .line) × Allowed (l .outcome .state) xs ls
+    Told s (x .call) (x .lent) (x .line) (l .outcome) (l .line) × Allowed (l .outcome .state) xs ls
 
 -- refused calls send nothing
 abbrev pub accepted : Answer → Bool

@@ -6,6 +6,7 @@ use Rattle.refusals.specs.Numbers.{numberOf}
 use Rattle.refusals.specs.Rows.{Row, row, firstGiven}
 use Rattle.refusals.specs.declared.Refusal.the-variants.{BadState}
 use Rattle.refusals.specs.declared.Ruling.{Ruling}
+use Rattle.buffers.specs.Buffers.{Each}
 use Rattle.buffers.specs.Lengths.{lineRow, streamRows}
 use Rattle.track.specs.State.{stateInRange}
 use Rattle.track.specs.declared.Reader.{Reader}
@@ -13,11 +14,11 @@ use Rattle.reader.specs.declared.Answer.{Answer}
 use Rattle.reader.specs.declared.Answer.the-variants.{Block, Refused}
 
 -- the rows of a call with a block and buffers of these lengths, in their order
-abbrev pub rows : Reader → ℕ → ℕ → ℕ → List Row
-rows s line voice lsd = row BadState (not (stateInRange s)) ∷ lineRow line ∷ streamRows voice lsd
+abbrev pub rows : Reader → ℕ → Each ℕ → List Row
+rows s line n = row BadState (not (stateInRange s)) ∷ lineRow line ∷ streamRows n
 
-unfoldable pub rulingOf : Reader → ℕ → ℕ → ℕ → Ruling
-rulingOf s line voice lsd = firstGiven (rows s line voice lsd)
+unfoldable pub rulingOf : Reader → ℕ → Each ℕ → Ruling
+rulingOf s line n = firstGiven (rows s line n)
 
 -- what an answer stands for: its kind, a block or refused; and the number of the refusal, 0 for a block
 abbrev pub kindOf : Answer → ℕ

@@ -1,16 +1,15 @@
--- Document 01, 'Reading a block': what one reading call leaves, the next state, the answer and the two buffers.
+-- Document 01, 'Reading a block': what one reading call leaves, the next state, the answer and the buffers.
 use mathlib.Core.Path.{_≡_}
 use mathlib.Core.List.{List}
 use Prim.Native.Nat.{ℕ}
-use lib.ListN.{length, replicate}
+use lib.ListN.{length}
 use Rattle.refusals.specs.Rows.{rulingNumber}
 use Rattle.refusals.specs.declared.Ruling.{Ruling}
 use Rattle.refusals.specs.declared.Ruling.the-variants.{Refuse, Accept}
-use Rattle.buffers.specs.Lengths.{voiceOctets, lsdOctets}
+use Rattle.buffers.specs.Buffers.{Buffers, lengths}
+use Rattle.buffers.specs.Lengths.{streamOctets, zeroed}
 use Rattle.modes.specs.declared.Mode.{Mode}
-use Rattle.modes.specs.declared.Owner.{Owner}
-use Rattle.modes.specs.declared.Owner.the-variants.{Voice, Lsd}
-use Rattle.sorter.specs.Sorting.{sortedOf}
+use Rattle.sorter.specs.Sorting.{streamsOf}
 use Rattle.track.specs.Signs.{signsOf}
 use Rattle.track.specs.Step.{stepOf}
 use Rattle.track.specs.declared.Reader.{Reader}
@@ -20,17 +19,11 @@ use Rattle.reader.specs.Refusals.{rulingOf, numberIn}
 use Rattle.reader.specs.declared.Answer.the-variants.{Block, Refused}
 use Rattle.reader.specs.declared.Outcome.{Outcome}
 
--- an owner's stream handed out into n octets by the mode at entry; buffers zero where the block is lost or its place unknown
-abbrev handedBy : Owner → ℕ → Standing → Mode → List ℕ → List ℕ
-handedBy o n Waiting m line = replicate n 0
-handedBy o n Read m line = sortedOf m o n line
-handedBy o n Lost m line = replicate n 0
-
-abbrev pub voiceBy : Standing → Mode → List ℕ → List ℕ
-voiceBy standing m line = handedBy Voice voiceOctets standing m line
-
-abbrev pub lsdBy : Standing → Mode → List ℕ → List ℕ
-lsdBy standing m line = handedBy Lsd lsdOctets standing m line
+-- the streams handed out by the mode at entry; buffers zero where the block is lost or its place unknown (DECISIONS R24)
+abbrev pub handedBy : Standing → Mode → List ℕ → Buffers
+handedBy Waiting m line = zeroed
+handedBy Read m line = streamsOf m line
+handedBy Lost m line = zeroed
 
 -- where a row refuses, the state comes back as given and nothing lent changes
 abbrev pub outcomeBy : Ruling → Reader → List ℕ → Outcome
@@ -39,34 +32,26 @@ outcomeBy Accept s line =
     let stepped = stepOf s (signsOf line) in
     record { state = stepped .state; answer = Block (stepped .report) }
 
-abbrev pub voiceIn : Ruling → Reader → List ℕ → List ℕ → List ℕ
-voiceIn (Refuse r) s line voice = voice
-voiceIn Accept s line voice = voiceBy ((stepOf s (signsOf line)) .report .standing) (s .mode) line
+abbrev pub filledBy : Ruling → Reader → List ℕ → Buffers → Buffers
+filledBy (Refuse r) s line b = b
+filledBy Accept s line b = handedBy ((stepOf s (signsOf line)) .report .standing) (s .mode) line
 
-abbrev pub lsdIn : Ruling → Reader → List ℕ → List ℕ → List ℕ
-lsdIn (Refuse r) s line lsd = lsd
-lsdIn Accept s line lsd = lsdBy ((stepOf s (signsOf line)) .report .standing) (s .mode) line
-
-abbrev pub ruled : Reader → List ℕ → List ℕ → List ℕ → Ruling
-ruled s line voice lsd = rulingOf s (length line) (length voice) (length lsd)
+abbrev pub ruled : Reader → List ℕ → Buffers → Ruling
+ruled s line b = rulingOf s (length line) (lengths b)
 
 -- the state and the answer of a call, and what the lent buffers hold after it
-unfoldable pub outcomeOf : Reader → List ℕ → List ℕ → List ℕ → Outcome
-outcomeOf s line voice lsd = outcomeBy (ruled s line voice lsd) s line
+unfoldable pub outcomeOf : Reader → List ℕ → Buffers → Outcome
+outcomeOf s line b = outcomeBy (ruled s line b) s line
 
-unfoldable pub voiceOf : Reader → List ℕ → List ℕ → List ℕ → List ℕ
-voiceOf s line voice lsd = voiceIn (ruled s line voice lsd) s line voice
-
-unfoldable pub lsdOf : Reader → List ℕ → List ℕ → List ℕ → List ℕ
-lsdOf s line voice lsd = lsdIn (ruled s line voice lsd) s line lsd
+unfoldable pub buffersOf : Reader → List ℕ → Buffers → Buffers
+buffersOf s line b = filledBy (ruled s line b) s line b
 
 -- a block's state and answer are the same for all buffers that fit, so they can be had without any
 unfoldable pub lookOf : Reader → List ℕ → Outcome
-lookOf s line = outcomeBy (rulingOf s (length line) voiceOctets lsdOctets) s line
+lookOf s line = outcomeBy (rulingOf s (length line) streamOctets) s line
 
--- all that the contract of a reading call says of its result `r` and of the two buffers at exit
-pub record Told (s : Reader) (line voice lsd : List ℕ) (r : Outcome) (v d : List ℕ) : Type 0 where
-  pub outcome : r ≡ outcomeOf s line voice lsd
-  pub heard : v ≡ voiceOf s line voice lsd
-  pub given : d ≡ lsdOf s line voice lsd
-  pub number : numberIn (r .answer) ≡ rulingNumber (ruled s line voice lsd)
+-- all that the contract of a reading call says of its result `r` and of the buffers at exit, `after`
+pub record Told (s : Reader) (line : List ℕ) (b : Buffers) (r : Outcome) (after : Buffers) : Type 0 where
+  pub outcome : r ≡ outcomeOf s line b
+  pub handed : after ≡ buffersOf s line b
+  pub number : numberIn (r .answer) ≡ rulingNumber (ruled s line b)

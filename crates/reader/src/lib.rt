@@ -3,9 +3,10 @@
 ghost use mathlib.Core.Path.{_≡_};
 ghost use mathlib.Core.Bool.{true};
 ghost use lib.ListN.{length};
+ghost use Rattle.buffers.specs.Buffers.{each, lengths};
 ghost use Rattle.buffers.specs.Lengths.{fitting};
 ghost use Rattle.reader.specs.Refusals.{rulingOf};
-ghost use Rattle.reader.specs.Step.{voiceBy, lsdBy, lookOf, Told};
+ghost use Rattle.reader.specs.Step.{handedBy, lookOf, Told};
 use modes::Mode;
 use refusals::Refusal;
 use refusals::Ruling;
@@ -26,7 +27,7 @@ pub struct Outcome {
 
 // The rows of a call with a block and buffers of these lengths, in their order.
 fn ruling_of(s: Reader, line: usize, voice: usize, lsd: usize) -> Ruling
-    ensures { λ r. ⌜ r ≡ rulingOf s line voice lsd ⌝ }
+    ensures { λ r. ⌜ r ≡ rulingOf s line (each voice lsd) ⌝ }
 {
     let one = refusals::judge(Ruling::Accept, Refusal::BadState, !track::in_range(s));
     let two = buffers::judge_line(one, line);
@@ -35,8 +36,8 @@ fn ruling_of(s: Reader, line: usize, voice: usize, lsd: usize) -> Ruling
 
 // Voice and data by the mode where the block is read, and zeros where it is not.
 fn hand(standing: Standing, mode: Mode, line: &[u8], voice: &mut [u8], lsd: &mut [u8])
-    requires { ⌜ fitting (length (now line)) (length (now voice)) (length (now lsd)) ≡ true ⌝ }
-    ensures { λ _. ⌜ (now (voice .exit) ≡ voiceBy standing mode (now (line .entry))) × (now (lsd .exit) ≡ lsdBy standing mode (now (line .entry))) ⌝ }
+    requires { ⌜ fitting (length (now line)) (lengths (each (now voice) (now lsd))) ≡ true ⌝ }
+    ensures { λ _. ⌜ each (now (voice .exit)) (now (lsd .exit)) ≡ handedBy standing mode (now (line .entry)) ⌝ }
 {
     match standing {
         Standing::Waiting => {
@@ -55,7 +56,7 @@ fn hand(standing: Standing, mode: Mode, line: &[u8], voice: &mut [u8], lsd: &mut
 
 // One block: its voice and data go into the lent buffers, or the call is refused and changes nothing.
 pub fn read(state: Reader, line: &[u8], voice: &mut [u8], lsd: &mut [u8]) -> Outcome
-    ensures { λ r. ⌜ Told state (now (line .entry)) (now (voice .entry)) (now (lsd .entry)) r (now (voice .exit)) (now (lsd .exit)) ⌝ }
+    ensures { λ r. ⌜ Told state (now (line .entry)) (each (now (voice .entry)) (now (lsd .entry))) r (each (now (voice .exit)) (now (lsd .exit))) ⌝ }
 {
     let mode = state.mode;
     let ruling = ruling_of(state, line.len(), voice.len(), lsd.len());

@@ -5,6 +5,7 @@ use mathlib.Core.List.{List}
 use Prim.Native.Nat.{ℕ, _+_, _-_}
 use lib.Dec.{ltb}
 use lib.ListN.{length}
+use Rattle.buffers.specs.Buffers.{Each}
 use Rattle.buffers.specs.Lengths.{lineOctets}
 use Rattle.track.specs.declared.Reader.{Reader}
 use Rattle.reader.specs.declared.Outcome as told
@@ -32,6 +33,6 @@ movedBy o place lost = by (o .answer)
     by (heard.the-variants.Refused why) = record { answer = Refused why; reader = o .state; place = place; lost = lost }
 
 -- a step with buffers of these lengths, beside what it leaves in them
-abbrev pub ruledAt : List ℕ → ℕ → Bool → Reader → ℕ → ℕ → Stepped
-ruledAt recording place lost s voice lsd =
-    steppedBy (answerBy (rulingOf (length recording) place s voice lsd) recording place lost s) recording place lost s
+abbrev pub ruledAt : List ℕ → ℕ → Bool → Reader → Each ℕ → Stepped
+ruledAt recording place lost s n =
+    steppedBy (answerBy (rulingOf (length recording) place s n) recording place lost s) recording place lost s

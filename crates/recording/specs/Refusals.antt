@@ -7,6 +7,7 @@ use Rattle.refusals.specs.Numbers.{numberOf}
 use Rattle.refusals.specs.Rows.{Row, row, firstGiven}
 use Rattle.refusals.specs.declared.Refusal.the-variants.{BadState, BadRecording}
 use Rattle.refusals.specs.declared.Ruling.{Ruling}
+use Rattle.buffers.specs.Buffers.{Each}
 use Rattle.buffers.specs.Lengths.{streamRows}
 use Rattle.track.specs.State.{stateInRange}
 use Rattle.track.specs.declared.Reader.{Reader}
@@ -14,13 +15,13 @@ use Rattle.recording.specs.declared.Answer.{Answer}
 use Rattle.recording.specs.declared.Answer.the-variants.{Block, Place, End, Refused}
 
 -- the rows of a step at a place of a recording of `all` octets, with buffers of these lengths, in their order. Row 9: the recording is over
--- 65,536 octets, or the place is past its end
-abbrev pub rows : ℕ → ℕ → Reader → ℕ → ℕ → List Row
-rows all place s voice lsd =
-    row BadState (not (stateInRange s)) ∷ streamRows voice lsd ++ row BadRecording (ltb 65536 all || ltb all place) ∷ []
+-- 65,536 octets, or the place is past its end (DECISIONS W2, W3)
+abbrev pub rows : ℕ → ℕ → Reader → Each ℕ → List Row
+rows all place s n =
+    row BadState (not (stateInRange s)) ∷ streamRows n ++ row BadRecording (ltb 65536 all || ltb all place) ∷ []
 
-unfoldable pub rulingOf : ℕ → ℕ → Reader → ℕ → ℕ → Ruling
-rulingOf all place s voice lsd = firstGiven (rows all place s voice lsd)
+unfoldable pub rulingOf : ℕ → ℕ → Reader → Each ℕ → Ruling
+rulingOf all place s n = firstGiven (rows all place s n)
 
 -- what an answer stands for: its kind, a block, a place, the end or refused; the number of the refusal, 0 where nothing is refused; and
 -- its value, the place found or the octets left, 0 for the other two

@@ -6,7 +6,8 @@ use lib.Dec.{ltb}
 use lib.ListN.{length, take, drop}
 use Rattle.refusals.specs.declared.Ruling.{Ruling}
 use Rattle.refusals.specs.declared.Ruling.the-variants.{Refuse, Accept}
-use Rattle.buffers.specs.Lengths.{lineOctets, voiceOctets, lsdOctets}
+use Rattle.buffers.specs.Buffers.{Buffers, lengths}
+use Rattle.buffers.specs.Lengths.{lineOctets, streamOctets}
 use Rattle.track.specs.Signs.{signsOf}
 use Rattle.track.specs.Step as tracking
 use Rattle.track.specs.declared.Reader.{Reader}
@@ -14,7 +15,7 @@ use Rattle.track.specs.declared.Report.{Report}
 use Rattle.track.specs.declared.Stepped as tracked
 use Rattle.track.specs.declared.Standing.{Standing}
 use Rattle.track.specs.declared.Standing.the-variants.{Waiting, Read, Lost}
-use Rattle.reader.specs.Step as reading
+use Rattle.reader.specs.Step.{handedBy}
 use Rattle.search.specs.Finding.{searchOf}
 use Rattle.search.specs.declared.Found.{Found}
 use Rattle.recording.specs.Refusals.{rulingOf}
@@ -37,7 +38,7 @@ abbrev pub blockRead : Reader → List ℕ → ℕ → Answer
 blockRead s recording place = Block ((readAt s recording place) .report)
 
 -- after a lost block the next step searches from the octet after it and answers the new place, or "end" and the octets left where that
--- search is refused
+-- search is refused (DECISIONS W5, W6)
 abbrev pub foundAgain : Found → ℕ → Answer
 foundAgain (Found.Place p) left = Place p
 foundAgain (Found.Refused r) left = End left
@@ -80,40 +81,28 @@ readerBy (Place p) recording place s = s
 readerBy (End left) recording place s = s
 readerBy (Refused r) recording place s = s
 
--- a buffer after an answer: what a block hands out, else what it held
-abbrev bufferBy : Answer → (Report → List ℕ) → List ℕ → List ℕ
-bufferBy (Block report) handed held = handed report
-bufferBy (Place p) handed held = held
-bufferBy (End left) handed held = held
-bufferBy (Refused r) handed held = held
-
-abbrev pub voiceBy : Answer → List ℕ → ℕ → Reader → List ℕ → List ℕ
-voiceBy a recording place s voice =
-    bufferBy a (λ (report : Report). reading.voiceBy (report .standing) (s .mode) (blockAt recording place)) voice
-
-abbrev pub lsdBy : Answer → List ℕ → ℕ → Reader → List ℕ → List ℕ
-lsdBy a recording place s lsd =
-    bufferBy a (λ (report : Report). reading.lsdBy (report .standing) (s .mode) (blockAt recording place)) lsd
+-- the buffers after an answer: what a block hands out, else what they held
+abbrev pub buffersBy : Answer → List ℕ → ℕ → Reader → Buffers → Buffers
+buffersBy (Block report) recording place s b = handedBy (report .standing) (s .mode) (blockAt recording place)
+buffersBy (Place p) recording place s b = b
+buffersBy (End left) recording place s b = b
+buffersBy (Refused r) recording place s b = b
 
 abbrev pub steppedBy : Answer → List ℕ → ℕ → Bool → Reader → Stepped
 steppedBy a recording place lost s =
     record { answer = a; reader = readerBy a recording place s; place = placeBy a place; lost = lostBy a lost }
 
 -- ---- the step: its answer, and what it leaves of the walk, the reader and the buffers
-unfoldable pub answerAt : List ℕ → ℕ → Bool → Reader → List ℕ → List ℕ → Answer
-answerAt recording place lost s voice lsd =
-    answerBy (rulingOf (length recording) place s (length voice) (length lsd)) recording place lost s
+unfoldable pub answerAt : List ℕ → ℕ → Bool → Reader → Buffers → Answer
+answerAt recording place lost s b = answerBy (rulingOf (length recording) place s (lengths b)) recording place lost s
 
-unfoldable pub stepAt : List ℕ → ℕ → Bool → Reader → List ℕ → List ℕ → Stepped
-stepAt recording place lost s voice lsd = steppedBy (answerAt recording place lost s voice lsd) recording place lost s
+unfoldable pub stepAt : List ℕ → ℕ → Bool → Reader → Buffers → Stepped
+stepAt recording place lost s b = steppedBy (answerAt recording place lost s b) recording place lost s
 
-unfoldable pub voiceAt : List ℕ → ℕ → Bool → Reader → List ℕ → List ℕ → List ℕ
-voiceAt recording place lost s voice lsd = voiceBy (answerAt recording place lost s voice lsd) recording place s voice
-
-unfoldable pub lsdAt : List ℕ → ℕ → Bool → Reader → List ℕ → List ℕ → List ℕ
-lsdAt recording place lost s voice lsd = lsdBy (answerAt recording place lost s voice lsd) recording place s lsd
+unfoldable pub buffersAt : List ℕ → ℕ → Bool → Reader → Buffers → Buffers
+buffersAt recording place lost s b = buffersBy (answerAt recording place lost s b) recording place s b
 
 -- what a step leaves beside the buffers is the same for all buffers that fit, so it can be had without any
 unfoldable pub lookAt : List ℕ → ℕ → Bool → Reader → Stepped
 lookAt recording place lost s =
-    steppedBy (answerBy (rulingOf (length recording) place s voiceOctets lsdOctets) recording place lost s) recording place lost s
+    steppedBy (answerBy (rulingOf (length recording) place s streamOctets) recording place lost s) recording place lost s

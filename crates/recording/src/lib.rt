@@ -3,9 +3,10 @@ ghost use mathlib.Core.Path.{_≡_};
 ghost use mathlib.Core.Bool.{true};
 ghost use Prim.Native.Nat.{_≤_};
 ghost use lib.ListN.{length};
+ghost use Rattle.buffers.specs.Buffers.{each};
 ghost use Rattle.search.specs.Finding.{searchOf};
 ghost use Rattle.recording.specs.Refusals.{rulingOf};
-ghost use Rattle.recording.specs.Walk.{leftFrom, foundAgain, isLost, answerHere, steppedBy, stepAt, lookAt, voiceAt, lsdAt};
+ghost use Rattle.recording.specs.Walk.{leftFrom, foundAgain, isLost, answerHere, steppedBy, stepAt, buffersAt, lookAt};
 ghost use Rattle.recording.specs.Inner.{offBlock, meetsNone, movedBy, ruledAt};
 use refusals::Refusal;
 use refusals::Ruling;
@@ -31,7 +32,7 @@ pub struct Stepped {
 
 // The rows of a step at a place of a recording of `all` octets, with buffers of these lengths, in their order.
 fn ruling_of(all: usize, place: usize, s: Reader, voice: usize, lsd: usize) -> Ruling
-    ensures { λ r. ⌜ r ≡ rulingOf all place s voice lsd ⌝ }
+    ensures { λ r. ⌜ r ≡ rulingOf all place s (each voice lsd) ⌝ }
 {
     let one = refusals::judge(Ruling::Accept, Refusal::BadState, !track::in_range(s));
     let four = buffers::judge_streams(one, voice, lsd);
@@ -130,7 +131,7 @@ fn off_by_ruling(
     lsd: usize,
 ) -> Stepped
     requires { ⌜ meetsNone (length (now recording)) place lost ≡ true ⌝ }
-    ensures { λ r. ⌜ r ≡ ruledAt (now (recording .entry)) place lost s voice lsd ⌝ }
+    ensures { λ r. ⌜ r ≡ ruledAt (now (recording .entry)) place lost s (each voice lsd) ⌝ }
 {
     let ruling = ruling_of(recording.len(), place, s, voice, lsd);
     match ruling {
@@ -154,9 +155,8 @@ pub fn step(
     voice: &mut [u8],
     lsd: &mut [u8],
 ) -> Stepped
-    ensures { λ r. ⌜ (r ≡ stepAt (now (recording .entry)) place lost s (now (voice .entry)) (now (lsd .entry)))
-        × (now (voice .exit) ≡ voiceAt (now (recording .entry)) place lost s (now (voice .entry)) (now (lsd .entry)))
-        × (now (lsd .exit) ≡ lsdAt (now (recording .entry)) place lost s (now (voice .entry)) (now (lsd .entry))) ⌝ }
+    ensures { λ r. ⌜ (r ≡ stepAt (now (recording .entry)) place lost s (each (now (voice .entry)) (now (lsd .entry))))
+        × (each (now (voice .exit)) (now (lsd .exit)) ≡ buffersAt (now (recording .entry)) place lost s (each (now (voice .entry)) (now (lsd .entry)))) ⌝ }
 {
     if off_block(recording.len(), place, lost) {
         return off_by_ruling(recording, place, lost, s, voice.len(), lsd.len());

@@ -10,7 +10,6 @@ use Rattle.refusals.specs.Numbers.{numberOf}
 use Rattle.refusals.specs.Rows.{Row, firstGiven, rulingNumber, judged, inTurn}
 use Rattle.refusals.specs.declared.Refusal.{Refusal}
 use Rattle.refusals.specs.declared.Refusal.the-variants.{BadState, LineLength, VoiceLength, LsdLength, NotCarried, ForbiddenItem, AudioWhileMuted, Overlap, BadRecording, NoPlace, NotAPreset}
-use Rattle.refusals.specs.declared.Ruling.{Ruling}
 use Rattle.refusals.specs.declared.Ruling.the-variants.{Refuse, Accept}
 
 refused-stays : (first : Refusal) (rows : List Row) → inTurn (Refuse first) rows ≡ Refuse first

@@ -3,7 +3,7 @@ ghost use mathlib.Core.Path.{_≡_};
 ghost use Rattle.refusals.specs.Numbers.{numberOf};
 ghost use Rattle.refusals.specs.Rows.{row, judged};
 
-// One for each number, in the order of the numbers.
+// One for each number, in the order of the numbers (DECISIONS F43, F44).
 pub enum Refusal {
     BadState,
     LineLength,

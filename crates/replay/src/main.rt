@@ -174,9 +174,9 @@ fn print_state(s: Reader) {
 }
 
 // Block k of a recording, printed with the state that it leaves.
-fn block_read(given: Reader, k: u64, line: &[u8; 160]) -> Reader {
-    let mut voice = [0u8; 140];
-    let mut lsd = [0u8; 156];
+fn block_read(given: Reader, k: u64, line: &[u8; buffers::LINE]) -> Reader {
+    let mut voice = [0u8; buffers::VOICE];
+    let mut lsd = [0u8; buffers::LSD];
     let outcome = reader::read(given, line, &mut voice, &mut lsd);
     let answer = outcome.answer;
     let next = outcome.state;
@@ -192,9 +192,9 @@ fn block_read(given: Reader, k: u64, line: &[u8; 160]) -> Reader {
 
 // Takes block k of a recording off the collection and reads it.
 fn next_block(given: Reader, k: u64) -> Turn {
-    let mut line = [0u8; 160];
+    let mut line = [0u8; buffers::LINE];
     let got = io::read_full(STDIN_FILENO, &mut line);
-    if got != 160 {
+    if got != buffers::LINE {
         return Turn {
             whole: false,
             state: given,
@@ -367,9 +367,9 @@ fn print_touch(untouched: bool) {
 
 // One refused call, and whether it left the state and the buffers as they were.
 fn refused(call: u8) {
-    let line = [FILLED; 160];
-    let mut voice = [FILLED; 140];
-    let mut lsd = [FILLED; 156];
+    let line = [FILLED; buffers::LINE];
+    let mut voice = [FILLED; buffers::VOICE];
+    let mut lsd = [FILLED; buffers::LSD];
     let given = given_to(call);
     let outcome = lent(given, call, &line, &mut voice, &mut lsd);
     let answer = outcome.answer;

@@ -19,7 +19,8 @@ use Rattle.modes.specs.Numbers.{evenFrame, oddFrame}
 use Rattle.modes.specs.declared.Mode.{Mode}
 use Rattle.places.specs.Streams.{Streams, rest}
 use Rattle.service.specs.Service.{serviceRows}
-use Rattle.frame.specs.Block.{serviceBits, heard, streams, sources, blockOf}
+use Rattle.buffers.specs.Buffers.{Buffers}
+use Rattle.frame.specs.Block.{serviceBits, heard, byOwner, sources, blockOf}
 use Rattle.service.specs.Channel.{channelBits}
 use Rattle.places.specs.Layout.{layoutOf, channelBy, columnsBy, rowsBy, sc, Apart}
 use Rattle.frame.specs.Frame.{frameBy}
@@ -58,10 +59,10 @@ channel-ext (suc n) at line (b ∷ bs) h f =
     ap (λ (j : ℕ). odd (getD line j 0)) e ∙ f (suc k) (omega arith)))
 
 -- the SC bit of octet o + 1 of a frame, among the first sixteen
-frame-sc : (p : Layout) (bs vs ds : List Bool) (o : ℕ) → Apart p → o < 16 → odd (getD (frameBy p (streams bs vs ds)) o 0) ≡ getD bs o true
+frame-sc : (p : Layout) (bs vs ds : List Bool) (o : ℕ) → Apart p → o < 16 → odd (getD (frameBy p (byOwner bs vs ds)) o 0) ≡ getD bs o true
 unfolding frameBy
 frame-sc p bs vs ds o h l =
-    let s : Streams = streams bs vs ds in
+    let s : Streams = byOwner bs vs ds in
     let b : Bool = getD (rest (rowsBy p o ++ columnsBy p) s (channelBy p (o + 1))) 0 true in
     ap odd (octet-done p s 80 o (h .within) (omega arith) ∙ octet-at p o s refl h)
     ∙ odd-above _ (digit b) ∙ odd-digit b
@@ -69,35 +70,35 @@ frame-sc p bs vs ds o h l =
     ∙ rw (channel-service p (o + 1) (omega arith), getD-drop o bs 0 true, add-zero o)
 
 -- ---- both halves
-module _ (m : Mode) (h : Header) (mute : Bool) (voice lsd : List ℕ) where
+module _ (m : Mode) (h : Header) (mute : Bool) (b : Buffers) where
   abbrev p : Layout
   p = layoutOf m
 
   abbrev vs : List Bool
-  vs = heard mute (bitsOf voice)
+  vs = heard mute (bitsOf (b .voice))
 
   abbrev ds : List Bool
-  ds = bitsOf lsd
+  ds = bitsOf (b .lsd)
 
   abbrev even : List ℕ
-  even = frameBy p (streams (serviceBits h) vs ds)
+  even = frameBy p (byOwner (serviceBits h) vs ds)
 
   abbrev odds : List ℕ
-  odds = frameBy p (streams (drop 16 (serviceBits h)) (drop (80 * p .width) vs) (drop (80 * p .columns + sc p 80) ds))
+  odds = frameBy p (byOwner (drop 16 (serviceBits h)) (drop (80 * p .width) vs) (drop (80 * p .columns + sc p 80) ds))
 
-  pub halves : blockOf m h mute voice lsd ≡ even ++ odds
+  pub halves : blockOf m h mute b ≡ even ++ odds
   halves =
-      sym (block-is m h mute voice lsd) ∙ two-frames (layoutOf m) (sources h mute voice lsd) (apart-of m .within)
-      ∙ ap (λ (s : Streams). frameBy (layoutOf m) (sources h mute voice lsd) ++ frameBy (layoutOf m) s)
-      (rest-frame (layoutOf m) (serviceBits h) (heard mute (bitsOf voice)) (bitsOf lsd) (apart-of m))
+      sym (block-is m h mute b) ∙ two-frames (layoutOf m) (sources h mute b) (apart-of m .within)
+      ∙ ap (λ (s : Streams). frameBy (layoutOf m) (sources h mute b) ++ frameBy (layoutOf m) s)
+      (rest-frame (layoutOf m) (serviceBits h) (heard mute (bitsOf (b .voice))) (bitsOf (b .lsd)) (apart-of m))
 
   pub length-even : length even ≡ 80
   unfolding frameBy
   length-even = length-octets 80 _
 
-  pub even-back : channelBits 16 0 (blockOf m h mute voice lsd) ≡ take 16 (serviceBits h)
+  pub even-back : channelBits 16 0 (blockOf m h mute b) ≡ take 16 (serviceBits h)
   even-back =
-      channel-ext 16 0 (blockOf m h mute voice lsd) (take 16 (serviceBits h)) (length-take-le 16 (serviceBits h) (omega (arith, length-service h)))
+      channel-ext 16 0 (blockOf m h mute b) (take 16 (serviceBits h)) (length-take-le 16 (serviceBits h) (omega (arith, length-service h)))
       (λ k l.
       ap (λ (b : List ℕ). odd (getD b (0 + k) 0)) halves
       ∙ ap (λ (j : ℕ). odd (getD (even ++ odds) j 0)) (zero-add k)
@@ -105,9 +106,9 @@ module _ (m : Mode) (h : Header) (mute : Bool) (voice lsd : List ℕ) where
       ∙ frame-sc p (serviceBits h) vs ds k (apart-of m) l
       ∙ sym (getD-take 16 (serviceBits h) k true l))
 
-  pub odd-back : channelBits 16 80 (blockOf m h mute voice lsd) ≡ drop 16 (serviceBits h)
+  pub odd-back : channelBits 16 80 (blockOf m h mute b) ≡ drop 16 (serviceBits h)
   odd-back =
-      channel-ext 16 80 (blockOf m h mute voice lsd) (drop 16 (serviceBits h)) (rw (length-drop, length-service h))
+      channel-ext 16 80 (blockOf m h mute b) (drop 16 (serviceBits h)) (rw (length-drop, length-service h))
       (λ k l.
       ap (λ (b : List ℕ). odd (getD b (80 + k) 0)) halves
       ∙ ap (λ (n : ℕ). odd (getD (even ++ odds) (n + k) 0)) (sym length-even)

@@ -18,6 +18,7 @@ use Rattle.bas.proofs.ReadingLaws.{word-back}
 use Rattle.modes.specs.Numbers.{evenFrame, oddFrame}
 use Rattle.modes.specs.declared.Mode.{Mode}
 use Rattle.service.specs.Service.{evenAlignment, firstBits, evenRow, oddRow, serviceRows}
+use Rattle.buffers.specs.Buffers.{Buffers}
 use Rattle.frame.specs.Block.{serviceBits, blockOf}
 use Rattle.service.specs.Channel.{channelBits, alignmentBits, wrongBits, oddFirst, cBits, basWord}
 use Rattle.frame.specs.declared.Header.{Header}
@@ -64,9 +65,9 @@ odd-row a e t r =
     each8 (λ (k : ℕ). getD (serviceRows a e t r) (k * 2 + 1) [] ≡ oddRow a e r (oddBit k)) refl refl refl refl refl refl refl refl
 
 -- ---- the channel of a block
-module _ (m : Mode) (h : Header) (mute : Bool) (voice lsd : List ℕ) where
+module _ (m : Mode) (h : Header) (mute : Bool) (b : Buffers) where
   abbrev line : List ℕ
-  line = blockOf m h mute voice lsd
+  line = blockOf m h mute b
 
   abbrev at : ℕ
   at = (h .block .0 - 1) % 8
@@ -99,10 +100,10 @@ module _ (m : Mode) (h : Header) (mute : Bool) (voice lsd : List ℕ) where
   odd-service = ap (drop 16) service-rows ∙ drop-at (even ++ take 8 word) (odds ++ drop 8 word) 16 front-length
 
   even-bits : channelBits 16 0 line ≡ even ++ take 8 word
-  even-bits = even-back m h mute voice lsd ∙ even-service
+  even-bits = even-back m h mute b ∙ even-service
 
   odd-bits : channelBits 16 80 line ≡ odds ++ drop 8 word
-  odd-bits = odd-back m h mute voice lsd ∙ odd-service
+  odd-bits = odd-back m h mute b ∙ odd-service
 
   pub alignment-back : alignmentBits line ≡ evenAlignment ++ (true ∷ [])
   unfolding alignmentBits lowBits

@@ -14,6 +14,8 @@ use Rattle.modes.specs.declared.Owner.{Owner}
 use Rattle.modes.specs.declared.Owner.the-variants.{Voice, Lsd}
 use Rattle.places.specs.Streams.{Streams, count, fill, sort, nexts}
 use Rattle.places.specs.Places.{places}
+use Rattle.buffers.specs.Buffers.{Buffers}
+use Rattle.buffers.specs.Lengths.{lineOctets, streamOctets}
 use Rattle.frame.specs.Block.{heard, sources, blockOf}
 use Rattle.places.specs.Layout.{layoutOf}
 use Rattle.frame.specs.declared.Header.{Header}
@@ -22,42 +24,48 @@ use Rattle.places.proofs.LayoutLaws.{apart-of}
 use Rattle.places.proofs.CountLaws.{length-both, voice-places, lsd-places}
 use Rattle.sorter.specs.Sorting.{sortedOf}
 
+abbrev voiceSize : ℕ
+voiceSize = streamOctets .voice
+
+abbrev lsdSize : ℕ
+lsdSize = streamOctets .lsd
+
 -- ---- the bits at an owner's places are the next bits of its stream, ones where it has none
-pub round-trip : (o : Owner) (m : Mode) (h : Header) (mute : Bool) (vs ds : List ℕ)
-    → sort o (places m ++ places m) (bitsOf (blockOf m h mute vs ds)) ≡ nexts (count o (places m ++ places m)) (sources h mute vs ds o)
+pub round-trip : (o : Owner) (m : Mode) (h : Header) (mute : Bool) (b : Buffers)
+    → sort o (places m ++ places m) (bitsOf (blockOf m h mute b)) ≡ nexts (count o (places m ++ places m)) (sources h mute b o)
 unfolding blockOf
-round-trip o m h mute vs ds =
+round-trip o m h mute b =
     let ps : List Owner = places m ++ places m in
-    let s : Streams = sources h mute vs ds in
-    let l : length (fill ps s) ≡ 160 * 8 = length-fill ps s ∙ length-both m in
-    ap (sort o ps) (bits-octets 160 (fill ps s) l) ∙ sorted o ps s
+    let s : Streams = sources h mute b in
+    let l : length (fill ps s) ≡ lineOctets * 8 = length-fill ps s ∙ length-both m in
+    ap (sort o ps) (bits-octets lineOctets (fill ps s) l) ∙ sorted o ps s
 
 -- what is handed out of a block
-pub handed : (o : Owner) (n : ℕ) (m : Mode) (h : Header) (mute : Bool) (vs ds : List ℕ)
-    → sortedOf m o n (blockOf m h mute vs ds) ≡ octets n (nexts (count o (places m ++ places m)) (sources h mute vs ds o))
+pub handed : (o : Owner) (n : ℕ) (m : Mode) (h : Header) (mute : Bool) (b : Buffers)
+    → sortedOf m o n (blockOf m h mute b) ≡ octets n (nexts (count o (places m ++ places m)) (sources h mute b o))
 unfolding sortedOf
-handed o n m h mute vs ds = ap (octets n) (round-trip o m h mute vs ds)
+handed o n m h mute b = ap (octets n) (round-trip o m h mute b)
 
 -- ---- voice comes back octet by octet, and zeros after it
-pub voice-back : (m : Mode) (h : Header) (vs ds : List ℕ) → length vs ≡ 140 → ((k : ℕ) → getD vs k 0 < 256)
-    → sortedOf m Voice 140 (blockOf m h false vs ds)
-    ≡ take (20 * (layoutOf m) .width) vs ++ replicate (140 - 20 * (layoutOf m) .width) 0
-voice-back m h vs ds hl hv =
+pub voice-back : (m : Mode) (h : Header) (b : Buffers) → length (b .voice) ≡ voiceSize → ((k : ℕ) → getD (b .voice) k 0 < 256)
+    → sortedOf m Voice voiceSize (blockOf m h false b)
+    ≡ take (20 * (layoutOf m) .width) (b .voice) ++ replicate (voiceSize - 20 * (layoutOf m) .width) 0
+voice-back m h b hl hv =
     let k : ℕ = 20 * (layoutOf m) .width in
-    let xs : List ℕ = take k vs in
-    let within : k ≤ 140 = omega (arith, apart-of m .within) in
+    let xs : List ℕ = take k (b .voice) in
+    let within : k ≤ voiceSize = omega (arith, apart-of m .within) in
     let n : count Voice (places m ++ places m) ≡ 8 * k = voice-places m ∙ omega arith in
-    let e : nexts (8 * k) (bitsOf vs) ≡ bitsOf xs = nexts-take (8 * k) (bitsOf vs) (rw length-bitsOf (omega arith)) ∙ take-bitsOf k vs in
-    let lx : length xs ≡ k = length-take-le k vs (omega arith) in
-    let all : k + (140 - k) ≡ 140 = omega arith in
+    let e : nexts (8 * k) (bitsOf (b .voice)) ≡ bitsOf xs = nexts-take (8 * k) (bitsOf (b .voice)) (rw length-bitsOf (omega arith)) ∙ take-bitsOf k (b .voice) in
+    let lx : length xs ≡ k = length-take-le k (b .voice) (omega arith) in
+    let all : k + (voiceSize - k) ≡ voiceSize = omega arith in
     let short : length (bitsOf xs) ≤ k * 8 = rw (length-bitsOf, lx) (omega arith) in
-    handed Voice 140 m h false vs ds
-    ∙ ap (λ (j : ℕ). octets 140 (nexts j (bitsOf vs))) n
-    ∙ ap (octets 140) e
+    handed Voice voiceSize m h false b
+    ∙ ap (λ (j : ℕ). octets voiceSize (nexts j (bitsOf (b .voice)))) n
+    ∙ ap (octets voiceSize) e
     ∙ ap (λ (j : ℕ). octets j (bitsOf xs)) (sym all)
-    ∙ octets-zeros k (140 - k) (bitsOf xs) short
-    ∙ ap (λ (j : ℕ). octets j (bitsOf xs) ++ replicate (140 - k) 0) (sym lx)
-    ∙ ap (λ (l : List ℕ). l ++ replicate (140 - k) 0) (octets-bits xs (λ i. below-take k vs i hv))
+    ∙ octets-zeros k (voiceSize - k) (bitsOf xs) short
+    ∙ ap (λ (j : ℕ). octets j (bitsOf xs) ++ replicate (voiceSize - k) 0) (sym lx)
+    ∙ ap (λ (l : List ℕ). l ++ replicate (voiceSize - k) 0) (octets-bits xs (λ i. below-take k (b .voice) i hv))
 
 -- ---- a muted voice comes back as ones
 nexts-none : (n : ℕ) → nexts n [] ≡ replicate n true
@@ -65,30 +73,30 @@ unfolding nexts
 nexts-none zero = refl
 nexts-none (suc n) = ap (λ (l : List Bool). true ∷ l) (nexts-none n)
 
-pub muted-back : (m : Mode) (h : Header) (vs ds : List ℕ)
-    → sortedOf m Voice 140 (blockOf m h true vs ds) ≡ octets 140 (replicate (160 * (layoutOf m) .width) true)
-muted-back m h vs ds =
-    handed Voice 140 m h true vs ds
-    ∙ ap (λ (j : ℕ). octets 140 (nexts j [])) (voice-places m)
-    ∙ ap (octets 140) (nexts-none (160 * (layoutOf m) .width))
+pub muted-back : (m : Mode) (h : Header) (b : Buffers)
+    → sortedOf m Voice voiceSize (blockOf m h true b) ≡ octets voiceSize (replicate (lineOctets * (layoutOf m) .width) true)
+muted-back m h b =
+    handed Voice voiceSize m h true b
+    ∙ ap (λ (j : ℕ). octets voiceSize (nexts j [])) (voice-places m)
+    ∙ ap (octets voiceSize) (nexts-none (lineOctets * (layoutOf m) .width))
 
 -- ---- voice bit by bit: the sender's, or ones where it is muted
-pub voice-bits-back : (m : Mode) (h : Header) (mute : Bool) (vs ds : List ℕ) → length vs ≡ 140
+pub voice-bits-back : (m : Mode) (h : Header) (mute : Bool) (b : Buffers) → length (b .voice) ≡ voiceSize
     → (let n = count Voice (places m ++ places m) in
-    sortedOf m Voice 140 (blockOf m h mute vs ds) ≡ octets 140 (cond mute (replicate n true) (take n (bitsOf vs))))
-voice-bits-back m h mute vs ds hl = handed Voice 140 m h mute vs ds ∙ ap (octets 140) (by-mute mute)
+    sortedOf m Voice voiceSize (blockOf m h mute b) ≡ octets voiceSize (cond mute (replicate n true) (take n (bitsOf (b .voice)))))
+voice-bits-back m h mute b hl = handed Voice voiceSize m h mute b ∙ ap (octets voiceSize) (by-mute mute)
   where
     n : ℕ
     n = count Voice (places m ++ places m)
 
-    by-mute : (b : Bool) → nexts n (heard b (bitsOf vs)) ≡ cond b (replicate n true) (take n (bitsOf vs))
+    by-mute : (t : Bool) → nexts n (heard t (bitsOf (b .voice))) ≡ cond t (replicate n true) (take n (bitsOf (b .voice)))
     by-mute true = nexts-none n
-    by-mute false = nexts-take n (bitsOf vs) (rw length-bitsOf (omega (arith, voice-places m, apart-of m .within)))
+    by-mute false = nexts-take n (bitsOf (b .voice)) (rw length-bitsOf (omega (arith, voice-places m, apart-of m .within)))
 
 -- ---- data comes back bit by bit: it can end within an octet
-pub lsd-back : (m : Mode) (h : Header) (mute : Bool) (vs ds : List ℕ) → length ds ≡ 156
-    → sortedOf m Lsd 156 (blockOf m h mute vs ds) ≡ octets 156 (take (count Lsd (places m ++ places m)) (bitsOf ds))
-lsd-back m h mute vs ds hl =
+pub lsd-back : (m : Mode) (h : Header) (mute : Bool) (b : Buffers) → length (b .lsd) ≡ lsdSize
+    → sortedOf m Lsd lsdSize (blockOf m h mute b) ≡ octets lsdSize (take (count Lsd (places m ++ places m)) (bitsOf (b .lsd)))
+lsd-back m h mute b hl =
     let n : ℕ = count Lsd (places m ++ places m) in
-    let enough : n ≤ length (bitsOf ds) = rw length-bitsOf (omega (arith, lsd-places m)) in
-    handed Lsd 156 m h mute vs ds ∙ ap (octets 156) (nexts-take n (bitsOf ds) enough)
+    let enough : n ≤ length (bitsOf (b .lsd)) = rw length-bitsOf (omega (arith, lsd-places m)) in
+    handed Lsd lsdSize m h mute b ∙ ap (octets lsdSize) (nexts-take n (bitsOf (b .lsd)) enough)

@@ -22,7 +22,8 @@ use Rattle.places.specs.declared.Layout.{Layout}
 use Rattle.places.proofs.LayoutLaws.{apart-of}
 use Rattle.service.specs.Service.{oddRow}
 use Rattle.service.specs.Channel.{cBits}
-use Rattle.frame.specs.Block.{serviceBits, heard, streams, blockOf}
+use Rattle.buffers.specs.Buffers.{Buffers}
+use Rattle.frame.specs.Block.{serviceBits, heard, byOwner, blockOf}
 use Rattle.frame.specs.Frame.{frameBy}
 use Rattle.frame.specs.declared.Header.{Header}
 use Rattle.frame.proofs.OctetLaws.{octet-at, channel-next, channel-service, channel-unserved}
@@ -33,11 +34,11 @@ use Rattle.round.proofs.HeaderLaws.{oddBit, even-service, odd-service, 
 -- ---- octet k + 1 of a frame, by the service bits that the frame is filled from
 module _ (p : Layout) (h : Apart p) (vs ds : List Bool) where
   abbrev octetOf : List Bool → ℕ → ℕ
-  octetOf bs k = getD (frameBy p (streams bs vs ds)) k 0
+  octetOf bs k = getD (frameBy p (byOwner bs vs ds)) k 0
 
   -- its SC bit, and the number of the bits above
   scSent : List Bool → ℕ → Bool
-  scSent bs k = getD (streams (drop k bs) [] (drop (k * p .columns + sc p k + p .columns) ds) (channelBy p (k + 1))) 0 true
+  scSent bs k = getD (byOwner (drop k bs) [] (drop (k * p .columns + sc p k + p .columns) ds) (channelBy p (k + 1))) 0 true
 
   above : ℕ → ℕ
   above k =
@@ -48,7 +49,7 @@ module _ (p : Layout) (h : Apart p) (vs ds : List Bool) where
   octet-is : (bs : List Bool) (k : ℕ) → k < 80 → octetOf bs k ≡ above k * 2 + digit (scSent bs k)
   unfolding frameBy above scSent
   octet-is bs k l =
-      let s : Streams = streams bs vs ds in
+      let s : Streams = byOwner bs vs ds in
       octet-done p s 80 k (h .within) l ∙ octet-at p k s refl h ∙ ap (λ (b : Bool). above k * 2 + digit b) (channel-next p k bs vs ds h)
 
   -- the service bits count no further than to the sixteenth
@@ -102,7 +103,7 @@ module _ (p : Layout) (h : Apart p) (vs ds : List Bool) where
 abbrev pub carrying : ℕ → Header → Header
 carrying r h = record { a = h .a; e = h .e; t = h .t; block = h .block; remainder = r; code = h .code }
 
-module _ (m : Mode) (h : Header) (r : ℕ) (mute : Bool) (voice lsd : List ℕ) where
+module _ (m : Mode) (h : Header) (r : ℕ) (mute : Bool) (b : Buffers) where
   abbrev p : Layout
   p = layoutOf m
 
@@ -112,17 +113,17 @@ module _ (m : Mode) (h : Header) (r : ℕ) (mute : Bool) (voice lsd : List ℕ) 
 
   -- what is left of voice and of data for the odd frame
   abbrev oddVoice : List Bool
-  oddVoice = drop (80 * p .width) (heard mute (bitsOf voice))
+  oddVoice = drop (80 * p .width) (heard mute (bitsOf (b .voice)))
 
   abbrev oddLsd : List Bool
-  oddLsd = drop (80 * p .columns + sc p 80) (bitsOf lsd)
+  oddLsd = drop (80 * p .columns + sc p 80) (bitsOf (b .lsd))
 
   -- the two halves of the block whose header is x
   abbrev evenHalf : Header → List ℕ
-  evenHalf x = frameBy p (streams (serviceBits x) (heard mute (bitsOf voice)) (bitsOf lsd))
+  evenHalf x = frameBy p (byOwner (serviceBits x) (heard mute (bitsOf (b .voice))) (bitsOf (b .lsd)))
 
   abbrev oddHalf : Header → List ℕ
-  oddHalf x = frameBy p (streams (drop 16 (serviceBits x)) oddVoice oddLsd)
+  oddHalf x = frameBy p (byOwner (drop 16 (serviceBits x)) oddVoice oddLsd)
 
   length-odd : (x : Header) → length (oddHalf x) ≡ 80
   unfolding frameBy
@@ -130,29 +131,29 @@ module _ (m : Mode) (h : Header) (r : ℕ) (mute : Bool) (voice lsd : List ℕ) 
 
   even-same : (k : ℕ) → k < 80 → getD (evenHalf h) k 0 ≡ getD (evenHalf g) k 0
   even-same k l =
-      same-octet p (apart-of m) (heard mute (bitsOf voice)) (bitsOf lsd) (serviceBits h) (serviceBits g) k l (λ i.
+      same-octet p (apart-of m) (heard mute (bitsOf (b .voice))) (bitsOf (b .lsd)) (serviceBits h) (serviceBits g) k l (λ i.
       sym (getD-take 16 (serviceBits h) k true i)
-      ∙ ap (λ (bs : List Bool). getD bs k true) (even-service m h mute voice lsd ∙ sym (even-service m g mute voice lsd))
+      ∙ ap (λ (bs : List Bool). getD bs k true) (even-service m h mute b ∙ sym (even-service m g mute b))
       ∙ getD-take 16 (serviceBits g) k true i)
 
   odd-same : (k : ℕ) → k < 80 → summed (80 + k) (getD (oddHalf h) k 0) ≡ summed (80 + k) (getD (oddHalf g) k 0)
   odd-same k l =
-      let shown : List Bool → ℕ = λ (bs : List Bool). summed (80 + k) (getD (frameBy p (streams bs oddVoice oddLsd)) k 0) in
+      let shown : List Bool → ℕ = λ (bs : List Bool). summed (80 + k) (getD (frameBy p (byOwner bs oddVoice oddLsd)) k 0) in
       let word = drop 8 (lineOrder (wordBits (h .code))) in
-      ap shown (odd-service m h mute voice lsd)
+      ap shown (odd-service m h mute b)
       ∙ same-odd p (apart-of m) oddVoice oddLsd (h .a) (h .e) (oddBit ((h .block .0 - 1) % 8)) word (h .remainder) r k l
-      ∙ sym (ap shown (odd-service m g mute voice lsd))
+      ∙ sym (ap shown (odd-service m g mute b))
 
   -- octet k + 1 of the odd frame, in the block
   odd-at : (x : Header) (k : ℕ) → getD (evenHalf x ++ oddHalf x) (80 + k) 0 ≡ getD (oddHalf x) k 0
   odd-at x k =
-      ap (λ (n : ℕ). getD (evenHalf x ++ oddHalf x) (n + k) 0) (sym (length-even m x mute voice lsd))
+      ap (λ (n : ℕ). getD (evenHalf x ++ oddHalf x) (n + k) 0) (sym (length-even m x mute b))
       ∙ getD-append-add (evenHalf x) (oddHalf x) k 0
 
   same-length : length (evenHalf h ++ oddHalf h) ≡ length (evenHalf g ++ oddHalf g)
   same-length =
       length-append (evenHalf h) (oddHalf h)
-      ∙ ap₂ _+_ (length-even m h mute voice lsd ∙ sym (length-even m g mute voice lsd)) (length-odd h ∙ sym (length-odd g))
+      ∙ ap₂ _+_ (length-even m h mute b ∙ sym (length-even m g mute b)) (length-odd h ∙ sym (length-odd g))
       ∙ sym (length-append (evenHalf g) (oddHalf g))
 
   each : (i : ℕ) → i < length (evenHalf h ++ oddHalf h)
@@ -163,25 +164,25 @@ module _ (m : Mode) (h : Header) (r : ℕ) (mute : Bool) (voice lsd : List ℕ) 
       go true e =
           let l = ltb-true i 80 e in
           ap (summed i)
-          (List·getD-append (evenHalf h) (oddHalf h) 0 i (rw (length-even m h mute voice lsd) l)
+          (List·getD-append (evenHalf h) (oddHalf h) 0 i (rw (length-even m h mute b) l)
           ∙ even-same i l
-          ∙ sym (List·getD-append (evenHalf g) (oddHalf g) 0 i (rw (length-even m g mute voice lsd) l)))
+          ∙ sym (List·getD-append (evenHalf g) (oddHalf g) 0 i (rw (length-even m g mute b) l)))
       go false e =
           let past = ltb-false i 80 e in
           let k = i - 80 in
           let whole : 80 + k ≡ i = omega arith in
           let short : k < 80 =
-          omega (arith, length-append (evenHalf h) (oddHalf h), length-even m h mute voice lsd, length-odd h) in
+          omega (arith, length-append (evenHalf h) (oddHalf h), length-even m h mute b, length-odd h) in
           rw (← whole) (ap (summed (80 + k)) (odd-at h k) ∙ odd-same k short ∙ sym (ap (summed (80 + k)) (odd-at g k)))
 
   -- 'CRC-4', C1 to C4 taken as 0: whatever remainder r they carry, the block has one remainder of its own
-  pub crc-without-c : blockCrcOf (blockOf m h mute voice lsd) ≡ blockCrcOf (blockOf m g mute voice lsd)
+  pub crc-without-c : blockCrcOf (blockOf m h mute b) ≡ blockCrcOf (blockOf m g mute b)
   crc-without-c =
-      ap blockCrcOf (halves m h mute voice lsd)
+      ap blockCrcOf (halves m h mute b)
       ∙ crc-agree (evenHalf h ++ oddHalf h) (evenHalf g ++ oddHalf g) same-length each
-      ∙ sym (ap blockCrcOf (halves m g mute voice lsd))
+      ∙ sym (ap blockCrcOf (halves m g mute b))
 
   -- so what the CRC-4 takes as 0, what the rows carry and what the reader reads are one: a block that carries r is read as carrying r, and has
   -- the remainder that it has with any other
-  pub c-joined : r < 16 → (cBits (blockOf m g mute voice lsd) ≡ r) × (blockCrcOf (blockOf m g mute voice lsd) ≡ blockCrcOf (blockOf m h mute voice lsd))
-  c-joined small = (remainder-back m g mute voice lsd small, sym crc-without-c)
+  pub c-joined : r < 16 → (cBits (blockOf m g mute b) ≡ r) × (blockCrcOf (blockOf m g mute b) ≡ blockCrcOf (blockOf m h mute b))
+  c-joined small = (remainder-back m g mute b small, sym crc-without-c)

@@ -25,7 +25,7 @@ unfoldable pub firstOf : ℕ → ℕ → List ℕ → Found
 firstOf zero at recording = Refused NoPlace
 firstOf (suc n) at recording = cond (aligned (drop at recording)) (Place at) (firstOf n (at + 1) recording)
 
--- row 9: the recording is over 65,536 octets, or under 168 from the start on; past the end there are none
+-- row 9: the recording is over 65,536 octets, or under 168 from the start on; past the end there are none (DECISIONS W7, F44)
 unfoldable pub badLength : List ℕ → ℕ → Bool
 badLength recording start = ltb 65536 (length recording) || ltb (length recording - start) 168
 

@@ -187,7 +187,8 @@ fn after_all_groups(recording: &[u8], start: usize) -> usize
     after_groups(recording, end, 64, 64)
 }
 
-// The smallest place from a given one on where alignment stands, by the test of one place after the other, as far as 168 octets are left.
+// The smallest place from a given one on where alignment stands, by the test of one place after the other, as far as 168 octets are left
+// (DECISIONS F39).
 fn first_from(recording: &[u8], from: usize) -> Found
     ensures { λ r. ⌜ r ≡ firstFrom from (now (recording .entry)) ⌝ }
 {

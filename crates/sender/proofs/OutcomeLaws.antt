@@ -10,6 +10,7 @@ use Rattle.refusals.specs.Rows.{rulingNumber}
 use Rattle.refusals.specs.declared.Refusal.{Refusal}
 use Rattle.refusals.specs.declared.Ruling.{Ruling}
 use Rattle.refusals.specs.declared.Ruling.the-variants.{Refuse, Accept}
+use Rattle.buffers.specs.Buffers.{Buffers, lengths}
 use Rattle.control.specs.State.{stateInRange}
 use Rattle.control.specs.Rules.{ruleOf}
 use Rattle.control.specs.Plans.{planBy}
@@ -37,44 +38,44 @@ decided-number : (q : Ruling) (s : Sender) (c : Call) → numberIn ((decisionBy 
 decided-number (Refuse r) s c = refl
 decided-number Accept s c = rule-number (ruleOf s (c .mute)) s (c .code)
 
-module _ (s : Sender) (c : Call) (voice lsd line : List ℕ) where
-  pub told : Told s c voice lsd line (outcomeOf s c voice lsd line) (lineOf s c voice lsd line)
+module _ (s : Sender) (c : Call) (b : Buffers) (line : List ℕ) where
+  pub told : Told s c b line (outcomeOf s c b line) (lineOf s c b line)
   unfolding outcomeOf decisionOf
-  told = record { outcome = refl; octets = refl; number = decided-number (ruled s c voice lsd line) s c }
+  told = record { outcome = refl; octets = refl; number = decided-number (ruled s c b line) s c }
 
   -- so a program is told right that goes by what is decided: it leaves all as it was where a row refuses, and else writes the block
-  pub told-refused : (d : Decision) (q : Refusal) → d ≡ decided s c voice lsd line → d .ruling ≡ Refuse q
-      → Told s c voice lsd line (record { state = d .next; answer = d .answer }) line
+  pub told-refused : (d : Decision) (q : Refusal) → d ≡ decided s c b line → d .ruling ≡ Refuse q
+      → Told s c b line (record { state = d .next; answer = d .answer }) line
   unfolding outcomeOf lineOf
   told-refused d q e r =
       let h = rw e at r in
       record { outcome = rw (e, h); octets = rw h; number = rw e (told .number) }
 
-  pub told-went : (d : Decision) (block : List ℕ) → d ≡ decided s c voice lsd line → d .ruling ≡ Accept → block ≡ blockFor s c (d .word) voice lsd
-      → Told s c voice lsd line (record { state = withRemainder (d .next) (blockCrcOf block); answer = d .answer }) block
+  pub told-went : (d : Decision) (block : List ℕ) → d ≡ decided s c b line → d .ruling ≡ Accept → block ≡ blockFor s c (d .word) b
+      → Told s c b line (record { state = withRemainder (d .next) (blockCrcOf block); answer = d .answer }) block
   unfolding outcomeOf lineOf
-  told-went d block e r b =
+  told-went d block e r w =
       let h = rw e at r in
-      record { outcome = rw (b, e, h); octets = rw (b, e, h); number = rw e (told .number) }
+      record { outcome = rw (w, e, h); octets = rw (w, e, h); number = rw e (told .number) }
 
   -- what a refused call leaves
-  pub refused-is : (q : Refusal) → ruled s c voice lsd line ≡ Refuse q
-      → (outcomeOf s c voice lsd line ≡ record { state = s; answer = Refused q }) × (lineOf s c voice lsd line ≡ line)
+  pub refused-is : (q : Refusal) → ruled s c b line ≡ Refuse q
+      → (outcomeOf s c b line ≡ record { state = s; answer = Refused q }) × (lineOf s c b line ≡ line)
   unfolding outcomeOf lineOf decisionOf
   refused-is q e = (rw e, rw e)
 
   -- a call on a state in range leaves one in range
-  pub stays-in-range : stateInRange s ≡ true → stateInRange ((outcomeOf s c voice lsd line) .state) ≡ true
+  pub stays-in-range : stateInRange s ≡ true → stateInRange ((outcomeOf s c b line) .state) ≡ true
   unfolding outcomeOf decisionOf
-  stays-in-range r = go (ruled s c voice lsd line) refl
+  stays-in-range r = go (ruled s c b line) refl
     where
-      go : (q : Ruling) → ruled s c voice lsd line ≡ q → stateInRange ((outcomeOf s c voice lsd line) .state) ≡ true
+      go : (q : Ruling) → ruled s c b line ≡ q → stateInRange ((outcomeOf s c b line) .state) ≡ true
       go (Refuse q) e = rw e r
       go Accept e =
-          let block = blockFor s c ((planBy (ruleOf s (c .mute)) s (c .code)) .word) voice lsd in
-          rw e (rw e at (decided-in-range s c (length line) (length voice) (length lsd) (blockCrcOf block) r (crc-low block) e))
+          let block = blockFor s c ((planBy (ruleOf s (c .mute)) s (c .code)) .word) b in
+          rw e (rw e at (decided-in-range s c (length line) (lengths b) (blockCrcOf block) r (crc-low block) e))
 
 -- any two outcomes that the contract of a sending call allows are equal
-pub send-settled : (s : Sender) (c : Call) (voice lsd line : List ℕ) (r q : Outcome) (l k : List ℕ)
-    → Told s c voice lsd line r l → Told s c voice lsd line q k → (r ≡ q) × (l ≡ k)
-send-settled s c voice lsd line r q l k x y = (x .outcome ∙ sym (y .outcome), x .octets ∙ sym (y .octets))
+pub send-settled : (s : Sender) (c : Call) (b : Buffers) (line : List ℕ) (r q : Outcome) (l k : List ℕ)
+    → Told s c b line r l → Told s c b line q k → (r ≡ q) × (l ≡ k)
+send-settled s c b line r q l k x y = (x .outcome ∙ sym (y .outcome), x .octets ∙ sym (y .octets))

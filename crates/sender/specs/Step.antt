@@ -7,6 +7,7 @@ use Rattle.crc.specs.Crc.{blockCrcOf}
 use Rattle.refusals.specs.Rows.{rulingNumber}
 use Rattle.refusals.specs.declared.Ruling.{Ruling}
 use Rattle.refusals.specs.declared.Ruling.the-variants.{Refuse, Accept}
+use Rattle.buffers.specs.Buffers.{Buffers, lengths}
 use Rattle.frame.specs.Block.{blockOf}
 use Rattle.frame.specs.declared.Header.{Header}
 use Rattle.control.specs.Refusals.{rulingOf, numberIn}
@@ -21,9 +22,9 @@ abbrev pub headerFor : Sender → Call → ℕ → Header
 headerFor s c word =
     record { a = c .a; e = c .e; t = c .t; block = s .block; remainder = s .remainder; code = word }
 
--- the block that a word makes, cut by the mode that the call finds: a command takes hold in the next block
-unfoldable pub blockFor : Sender → Call → ℕ → List ℕ → List ℕ → List ℕ
-blockFor s c word voice lsd = blockOf (s .mode) (headerFor s c word) (c .mute) voice lsd
+-- the block that a word makes, cut by the mode that the call finds: a command takes hold in the next block (DECISIONS S14)
+unfoldable pub blockFor : Sender → Call → ℕ → Buffers → List ℕ
+blockFor s c word b = blockOf (s .mode) (headerFor s c word) (c .mute) b
 
 -- where a row refuses, the state comes back as given and nothing lent changes; else the state goes on with the remainder of the block sent
 abbrev pub stateBy : Decision → List ℕ → Sender
@@ -41,25 +42,25 @@ lineBy d block line = by (d .ruling)
     by Accept = block
 
 -- a call with what it is lent: how it is ruled, and what is decided
-abbrev pub ruled : Sender → Call → List ℕ → List ℕ → List ℕ → Ruling
-ruled s c voice lsd line = rulingOf s c (length line) (length voice) (length lsd)
+abbrev pub ruled : Sender → Call → Buffers → List ℕ → Ruling
+ruled s c b line = rulingOf s c (length line) (lengths b)
 
-abbrev pub decided : Sender → Call → List ℕ → List ℕ → List ℕ → Decision
-decided s c voice lsd line = decisionOf s c (length line) (length voice) (length lsd)
+abbrev pub decided : Sender → Call → Buffers → List ℕ → Decision
+decided s c b line = decisionOf s c (length line) (lengths b)
 
 -- the state and the answer of a call, and what the lent line holds after it
-unfoldable pub outcomeOf : Sender → Call → List ℕ → List ℕ → List ℕ → Outcome
-outcomeOf s c voice lsd line =
-    let d = decided s c voice lsd line in
-    record { state = stateBy d (blockFor s c (d .word) voice lsd); answer = d .answer }
+unfoldable pub outcomeOf : Sender → Call → Buffers → List ℕ → Outcome
+outcomeOf s c b line =
+    let d = decided s c b line in
+    record { state = stateBy d (blockFor s c (d .word) b); answer = d .answer }
 
-unfoldable pub lineOf : Sender → Call → List ℕ → List ℕ → List ℕ → List ℕ
-lineOf s c voice lsd line =
-    let d = decided s c voice lsd line in
-    lineBy d (blockFor s c (d .word) voice lsd) line
+unfoldable pub lineOf : Sender → Call → Buffers → List ℕ → List ℕ
+lineOf s c b line =
+    let d = decided s c b line in
+    lineBy d (blockFor s c (d .word) b) line
 
 -- all that the contract of a sending call says of its result `r` and of the line `l` at exit
-pub record Told (s : Sender) (c : Call) (voice lsd line : List ℕ) (r : Outcome) (l : List ℕ) : Type 0 where
-  pub outcome : r ≡ outcomeOf s c voice lsd line
-  pub octets : l ≡ lineOf s c voice lsd line
-  pub number : numberIn (r .answer) ≡ rulingNumber (ruled s c voice lsd line)
+pub record Told (s : Sender) (c : Call) (b : Buffers) (line : List ℕ) (r : Outcome) (l : List ℕ) : Type 0 where
+  pub outcome : r ≡ outcomeOf s c b line
+  pub octets : l ≡ lineOf s c b line
+  pub number : numberIn (r .answer) ≡ rulingNumber (ruled s c b line)

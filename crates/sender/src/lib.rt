@@ -1,6 +1,7 @@
 // The sender's step: state, call and buffers in; the next state and the answer out; the block written into the lent line (document 01,
 // 'Sending a block').
 ghost use mathlib.Core.Path.{_≡_};
+ghost use Rattle.buffers.specs.Buffers.{each};
 ghost use Rattle.control.specs.Decisions.{withRemainder};
 ghost use Rattle.sender.specs.Step.{Told};
 use control::Answer;
@@ -26,7 +27,7 @@ fn with_remainder(s: Sender, remainder: u8) -> Sender
 
 // One call: the block goes into the lent line, or the call is refused and changes nothing.
 pub fn send(state: Sender, call: Call, voice: &[u8], lsd: &[u8], line: &mut [u8]) -> Outcome
-    ensures { λ r. ⌜ Told state call (now (voice .entry)) (now (lsd .entry)) (now (line .entry)) r (now (line .exit)) ⌝ }
+    ensures { λ r. ⌜ Told state call (each (now (voice .entry)) (now (lsd .entry))) (now (line .entry)) r (now (line .exit)) ⌝ }
 {
     let mode = state.mode;
     let block = state.block;

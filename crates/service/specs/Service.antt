@@ -22,11 +22,11 @@ abbrev pub oddRow : Bool → Bool → ℕ → Bool → List Bool
 oddRow a e remainder first = first ∷ true ∷ a ∷ e ∷ lowBits 4 remainder
 
 -- even and odd frames in turn
-abbrev pub inTurn : Bool → Bool → ℕ → List Bool → List (List Bool)
-inTurn a e remainder [] = []
-inTurn a e remainder (first ∷ []) = evenRow first ∷ []
-inTurn a e remainder (first ∷ second ∷ more) = evenRow first ∷ oddRow a e remainder second ∷ inTurn a e remainder more
+abbrev pub alternating : Bool → Bool → ℕ → List Bool → List (List Bool)
+alternating a e remainder [] = []
+alternating a e remainder (first ∷ []) = evenRow first ∷ []
+alternating a e remainder (first ∷ second ∷ more) = evenRow first ∷ oddRow a e remainder second ∷ alternating a e remainder more
 
 -- the sixteen rows of eight service bits, for given A, E, T and remainder
 abbrev pub serviceRows : Bool → Bool → Bool → ℕ → List (List Bool)
-serviceRows a e t remainder = inTurn a e remainder (firstBits t)
+serviceRows a e t remainder = alternating a e remainder (firstBits t)

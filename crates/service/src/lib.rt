@@ -7,7 +7,7 @@ ghost use Rattle.bas.specs.Reading.{weight};
 ghost use Rattle.service.specs.Service.{serviceRows};
 ghost use Rattle.service.specs.Channel.{channelBits, wrongBits, oddFirst, cBits, basWord};
 
-// The sixteen rows of eight service bits, frames 0 to 15. Of the remainder the low four bits count.
+// The sixteen rows of eight service bits, frames 0 to 15. Of the remainder the low four bits count (DECISIONS G3).
 pub fn service_rows(a: bool, e: bool, t: bool, remainder: u8) -> [[bool; 8]; 16]
     ensures { λ r. ⌜ r ≡ serviceRows a e t remainder ⌝ }
 {

@@ -97,8 +97,8 @@ fn hex(x: u8) {
     text(&digits);
 }
 
-fn print_line(line: &[u8; 160]) {
-    for i in 0..160 {
+fn print_line(line: &[u8; buffers::LINE]) {
+    for i in 0..buffers::LINE {
         hex(line[i]);
     }
     text(b"\n");
@@ -228,9 +228,9 @@ fn lent(given: Sender, call: Call, way: u8, voice: &[u8], lsd: &[u8], line: &mut
 
 // Call k, printed with the state that it gives back, and with its block where it wrote one.
 fn made(given: Sender, k: usize, code: u8, way: u8) -> Sender {
-    let mut line = [0u8; 160];
-    let mut voice = [0u8; 140];
-    let mut lsd = [0u8; 156];
+    let mut line = [0u8; buffers::LINE];
+    let mut voice = [0u8; buffers::VOICE];
+    let mut lsd = [0u8; buffers::LSD];
     fill(&mut voice, Stream::Voice, k);
     fill(&mut lsd, Stream::Data, k);
     let call = call_of(code, way);

@@ -13,11 +13,11 @@ use Rattle.slots.specs.declared.Due.the-variants.{Plain, AnItem, N, Word
 use Rattle.slots.specs.declared.Reading.{Reading}
 use Rattle.slots.specs.declared.Reading.the-variants.{Mended, Item, MessageWord, ForbiddenItem, NotFollowed, Unreadable, NotRead}
 
--- plain words of attributes 000 to 011 outside the carried list are named not followed
+-- plain words of attributes 000 to 011 outside the carried list are named not followed (DECISIONS R14)
 abbrev pub plainReading : ℕ → Reading
 plainReading code = cond (leb (attribute code) 0b011 && not (readerCarries code)) (NotFollowed code) (Mended code)
 
--- an item with attribute 111 is reported forbidden
+-- an item with attribute 111 is reported forbidden, and opens nothing (DECISIONS R12)
 abbrev pub itemReading : ℕ → Reading
 itemReading code = cond (eqb (attribute code) 0b111) (ForbiddenItem code) (Item code)
 

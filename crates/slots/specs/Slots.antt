@@ -17,7 +17,7 @@ dueBy Nothing = Plain
 dueBy Item = AnItem
 dueBy Message = N
 
--- then N words; a message with none left is over
+-- then N words; a message with none left is over (DECISIONS R11, R27)
 abbrev pub wordsDue : ℕ → Due
 wordsDue words = cond (eqb words 0) Plain (Words words)
 

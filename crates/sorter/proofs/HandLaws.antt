@@ -1,31 +1,25 @@
 -- What a call of `hand_out` tells, by whether its lengths fit.
-use mathlib.Core.Path.{_≡_, sym}
-use mathlib.Core.Bool.{Bool, true, false}
+use mathlib.Core.Path.{_≡_, ap, sym}
+use mathlib.Core.Bool.{Bool, cond}
 use mathlib.Core.List.{List}
 use Prim.Native.Nat.{ℕ}
 use lib.ListN.{length}
 use Rattle.bits.proofs.Settled.{settled}
 use Rattle.modes.specs.declared.Mode.{Mode}
-use Rattle.modes.specs.declared.Owner.the-variants.{Voice, Lsd}
+use Rattle.buffers.specs.Buffers.{Buffers, lengths}
 use Rattle.buffers.specs.Lengths.{fitting}
-use Rattle.sorter.specs.Sorting.{sortedOf, voiceAfter, lsdAfter}
+use Rattle.sorter.specs.Sorting.{streamsOf, buffersAfter}
 
-module _ (m : Mode) (line voice lsd : List ℕ) where
+module _ (m : Mode) (line : List ℕ) (b : Buffers) where
   -- what its contract says
-  abbrev pub Told : Bool → List ℕ → List ℕ → Type 0
-  Told r v d = (r ≡ fitting (length line) (length voice) (length lsd)) × (v ≡ voiceAfter m line voice lsd) × (d ≡ lsdAfter m line voice lsd)
+  abbrev pub Told : Bool → Buffers → Type 0
+  Told r after = (r ≡ fitting (length line) (lengths b)) × (after ≡ buffersAfter m line b)
 
-  -- where a length is wrong, nothing was touched
-  pub left-alone : fitting (length line) (length voice) (length lsd) ≡ false → Told false voice lsd
-  unfolding voiceAfter lsdAfter
-  left-alone e = (sym e, rw e, rw e)
-
-  -- else each buffer holds its stream
-  pub sorted-out : (v d : List ℕ) → fitting (length line) (length voice) (length lsd) ≡ true
-      → v ≡ sortedOf m Voice 140 line → d ≡ sortedOf m Lsd 156 line → Told true v d
-  unfolding voiceAfter lsdAfter
-  sorted-out v d e f g = (sym e, rw e f, rw e g)
+  -- where a length is wrong, nothing was touched; else each buffer holds its stream
+  pub told : (fit : Bool) → fitting (length line) (lengths b) ≡ fit → Told fit (cond fit (streamsOf m line) b)
+  unfolding buffersAfter
+  told fit e = (sym e, ap (λ (t : Bool). cond t (streamsOf m line) b) (sym e))
 
   -- any two outcomes that it allows are equal
-  pub hand-out-settled : (r q : Bool) (v w d e : List ℕ) → Told r v d → Told q w e → (r ≡ q) × (v ≡ w) × (d ≡ e)
-  hand-out-settled r q v w d e x y = (settled (x .0) (y .0), settled (x .1) (y .1), settled (x .2) (y .2))
+  pub hand-out-settled : (r q : Bool) (x y : Buffers) → Told r x → Told q y → (r ≡ q) × (x ≡ y)
+  hand-out-settled r q x y s t = (settled (s .0) (t .0), settled (s .1) (t .1))

@@ -23,6 +23,7 @@ use Rattle.places.proofs.StreamLaws.{sort-append, sort-all, sort-none}
 use Rattle.places.proofs.LayoutLaws.{no-voice, length-row}
 use Rattle.packing.specs.Filled.{runs}
 use Rattle.packing.proofs.RunsLaws.{no-runs}
+use Rattle.buffers.specs.Lengths.{lineOctets}
 use Rattle.sorter.specs.Sofar.{blockRows, sofar}
 
 -- ---- the run of a stream in an octet
@@ -79,7 +80,7 @@ block-high p (suc n) h =
     let e : (n + 80) % 80 + 1 ≡ suc n = omega arith in
     rw (suc-add n 80, block-high p n (omega arith), e) (append-assoc (rowsBy p 80) (rowsBy p n) (rowBy p (suc n)))
 
-pub block-all : (p : Layout) → blockRows p 160 ≡ rowsBy p 80 ++ rowsBy p 80
+pub block-all : (p : Layout) → blockRows p lineOctets ≡ rowsBy p 80 ++ rowsBy p 80
 block-all p = block-high p 80 (omega arith)
 
 length-block : (p : Layout) (n : ℕ) → p .width + p .columns ≤ 7 → length (blockRows p n) ≡ n * 8
@@ -118,8 +119,8 @@ sofar-runs p w line o s n (suc k) h hn ho run =
 row-at : (from a j : ℕ) → from % 80 ≡ 0 → from ≤ a → a + j < from + 80 → (a + j) % 80 + 1 ≡ a + j + 1 - from
 row-at from a j h l m = omega arith
 
-up-to : (p : Layout) (w : Owner) (line : List ℕ) (from a b s n : ℕ) → Apart p → length line ≡ 160
-    → from % 80 ≡ 0 → from + 80 ≤ 160 → from ≤ a → a ≤ b → b ≤ from + 80 → s + n ≤ 8
+up-to : (p : Layout) (w : Owner) (line : List ℕ) (from a b s n : ℕ) → Apart p → length line ≡ lineOctets
+    → from % 80 ≡ 0 → from + 80 ≤ lineOctets → from ≤ a → a ≤ b → b ≤ from + 80 → s + n ≤ 8
     → ((o : ℕ) → a < from + o → from + o ≤ b → (bs : List Bool) → sort w (rowBy p o) bs ≡ take n (drop s bs))
     → sofar p w line b ≡ sofar p w line a ++ runs s n line a (b - a)
 up-to p w line from a b s n h hl hf he ha hab hb hn run =
@@ -129,8 +130,8 @@ up-to p w line from a b s n h hl hf he ha hab hb hn run =
     (λ j l bs. rw (row-at from a j hf ha (omega arith)) (run (a + j + 1 - from) (omega arith) (omega arith) bs))
 
 -- those that data has no SC bit of, and those that it has the SC bit of
-pub lsd-without : (p : Layout) (line : List ℕ) (from a b : ℕ) → Apart p → length line ≡ 160
-    → from % 80 ≡ 0 → from + 80 ≤ 160 → from ≤ a → a ≤ b → b ≤ from + 80 → (b < from + p .first) ⊎ (from + p .last ≤ a)
+pub lsd-without : (p : Layout) (line : List ℕ) (from a b : ℕ) → Apart p → length line ≡ lineOctets
+    → from % 80 ≡ 0 → from + 80 ≤ lineOctets → from ≤ a → a ≤ b → b ≤ from + 80 → (b < from + p .first) ⊎ (from + p .last ≤ a)
     → sofar p Lsd line b ≡ sofar p Lsd line a ++ runs (7 - p .columns) (p .columns) line a (b - a)
 lsd-without p line from a b h hl hf he ha hab hb out =
     up-to p Lsd line from a b (7 - p .columns) (p .columns) h hl hf he ha hab hb (omega (arith, h .within)) (λ o l m bs. sort-lsd-out p o bs (h .within) (beyond o l m out))
@@ -139,8 +140,8 @@ lsd-without p line from a b h hl hf he ha hab hb out =
     beyond o l m (inl e) = inl (omega arith)
     beyond o l m (inr e) = inr (omega arith)
 
-pub lsd-with : (p : Layout) (line : List ℕ) (from a b : ℕ) → Apart p → length line ≡ 160
-    → from % 80 ≡ 0 → from + 80 ≤ 160 → a ≤ b → from + p .first ≤ a + 1 → b ≤ from + p .last
+pub lsd-with : (p : Layout) (line : List ℕ) (from a b : ℕ) → Apart p → length line ≡ lineOctets
+    → from % 80 ≡ 0 → from + 80 ≤ lineOctets → a ≤ b → from + p .first ≤ a + 1 → b ≤ from + p .last
     → sofar p Lsd line b ≡ sofar p Lsd line a ++ runs (7 - p .columns) (p .columns + 1) line a (b - a)
 lsd-with p line from a b h hl hf he hab hfirst hlast =
     up-to p Lsd line from a b (7 - p .columns) (p .columns + 1) h hl hf he (omega (arith, h .after)) hab (omega (arith, h .until)) (omega (arith, h .within))
@@ -152,8 +153,8 @@ whole-eights p e =
     (eqb-true (p .first % 8) 1 (and-left (eqb (p .first % 8) 1) (eqb (p .last % 8) 0) e), eqb-true (p .last % 8) 0 (and-right (eqb (p .first % 8) 1) (eqb (p .last % 8) 0) e))
 
 -- where data has no octet bits, a frame's SC bits are all
-pub lsd-bits : (p : Layout) (line : List ℕ) (from a b : ℕ) → Apart p → p .columns ≡ 0 → length line ≡ 160
-    → from % 80 ≡ 0 → from + 80 ≤ 160 → a + 1 ≡ from + p .first → b ≡ from + p .last
+pub lsd-bits : (p : Layout) (line : List ℕ) (from a b : ℕ) → Apart p → p .columns ≡ 0 → length line ≡ lineOctets
+    → from % 80 ≡ 0 → from + 80 ≤ lineOctets → a + 1 ≡ from + p .first → b ≡ from + p .last
     → sofar p Lsd line (from + 80) ≡ sofar p Lsd line from ++ runs 7 1 line a (b - a)
 lsd-bits p line from a b h none hl hf he ha hb =
     let after = h .after in
@@ -176,18 +177,18 @@ pub none-yet : (p : Layout) (w : Owner) (line : List ℕ) → [] ≡ sofar p w l
 unfolding sort
 none-yet p w line = refl
 
-pub voice-all : (p : Layout) (line : List ℕ) → Apart p → length line ≡ 160
-    → runs 0 (p .width) line 0 160 ≡ sort Voice (rowsBy p 80 ++ rowsBy p 80) (bitsOf line)
+pub voice-all : (p : Layout) (line : List ℕ) → Apart p → length line ≡ lineOctets
+    → runs 0 (p .width) line 0 lineOctets ≡ sort Voice (rowsBy p 80 ++ rowsBy p 80) (bitsOf line)
 unfolding sort
 voice-all p line h hl =
-    sym (sofar-runs p Voice line 0 0 (p .width) 160 (h .within) (omega (arith, h .within)) (omega arith) (λ j l bs. sort-voice p ((0 + j) % 80 + 1) bs))
+    sym (sofar-runs p Voice line 0 0 (p .width) lineOctets (h .within) (omega (arith, h .within)) (omega arith) (λ j l bs. sort-voice p ((0 + j) % 80 + 1) bs))
     ∙ ap (λ (ps : List Owner). sort Voice ps (bitsOf line)) (block-all p)
 
-pub lsd-all : (p : Layout) (line : List ℕ) → Apart p → length line ≡ 160 → p .last < p .first
-    → runs (7 - p .columns) (p .columns) line 0 160 ≡ sort Lsd (rowsBy p 80 ++ rowsBy p 80) (bitsOf line)
+pub lsd-all : (p : Layout) (line : List ℕ) → Apart p → length line ≡ lineOctets → p .last < p .first
+    → runs (7 - p .columns) (p .columns) line 0 lineOctets ≡ sort Lsd (rowsBy p 80 ++ rowsBy p 80) (bitsOf line)
 unfolding sort
 lsd-all p line h hl none =
-    sym (sofar-runs p Lsd line 0 (7 - p .columns) (p .columns) 160 (h .within) (omega (arith, h .within)) (omega arith)
+    sym (sofar-runs p Lsd line 0 (7 - p .columns) (p .columns) lineOctets (h .within) (omega (arith, h .within)) (omega arith)
     (λ j l bs. sort-lsd-out p ((0 + j) % 80 + 1) bs (h .within) (outside ((0 + j) % 80 + 1) (leb ((0 + j) % 80 + 1) (p .last)) refl)))
     ∙ ap (λ (ps : List Owner). sort Lsd ps (bitsOf line)) (block-all p)
   where

@@ -9,15 +9,17 @@ use Rattle.modes.specs.declared.Owner.{Owner}
 use Rattle.modes.specs.declared.Owner.the-variants.{Voice, Lsd}
 use Rattle.places.specs.Streams.{sort}
 use Rattle.places.specs.Places.{places}
-use Rattle.buffers.specs.Lengths.{fitting}
+use Rattle.buffers.specs.Buffers.{Buffers, each, lengths}
+use Rattle.buffers.specs.Lengths.{streamOctets, fitting}
 
 -- an owner's bits out of a block, packed into n octets; past their end the octets are zero to the bit
 unfoldable pub sortedOf : Mode → Owner → ℕ → List ℕ → List ℕ
 sortedOf m o n line = octets n (sort o (places m ++ places m) (bitsOf line))
 
--- what a lent buffer holds after a call: what was sorted out, or what it held where a length is wrong
-unfoldable pub voiceAfter : Mode → List ℕ → List ℕ → List ℕ → List ℕ
-voiceAfter m line voice lsd = cond (fitting (length line) (length voice) (length lsd)) (sortedOf m Voice 140 line) voice
+-- each stream's bits, into a buffer of its length
+unfoldable pub streamsOf : Mode → List ℕ → Buffers
+streamsOf m line = each (sortedOf m Voice (streamOctets .voice) line) (sortedOf m Lsd (streamOctets .lsd) line)
 
-unfoldable pub lsdAfter : Mode → List ℕ → List ℕ → List ℕ → List ℕ
-lsdAfter m line voice lsd = cond (fitting (length line) (length voice) (length lsd)) (sortedOf m Lsd 156 line) lsd
+-- what the lent buffers hold after a call: what was sorted out, or what they held where a length is wrong
+unfoldable pub buffersAfter : Mode → List ℕ → Buffers → Buffers
+buffersAfter m line b = cond (fitting (length line) (lengths b)) (streamsOf m line) b

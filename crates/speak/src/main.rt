@@ -212,13 +212,13 @@ fn all_calls(count: usize) -> bool {
 }
 
 // The voice of the next block: 20 octets for each bit that the audio in force holds, from standard input. What is missing is zero.
-fn voice_under(mode: Mode, mute: bool) -> [u8; 140] {
-    let mut voice = [0u8; 140];
+fn voice_under(mode: Mode, mute: bool) -> [u8; buffers::VOICE] {
+    let mut voice = [0u8; buffers::VOICE];
     let octets = (modes::bits_per_frame(mode, Owner::Voice) / 4) as usize;
     if mute {
         return voice;
     }
-    if octets <= 140 {
+    if octets <= buffers::VOICE {
         io::read_full(STDIN_FILENO, &mut voice[..octets]);
     }
     voice
@@ -276,8 +276,8 @@ fn followed(session: Session, state: Sender, open: bool) -> Session {
 
 // A call that is accepted: its block is written, with the voice in it.
 fn accepted(session: Session, call: Call) -> Session {
-    let mut line = [0u8; 160];
-    let lsd = [0u8; 156];
+    let mut line = [0u8; buffers::LINE];
+    let lsd = [0u8; buffers::LSD];
     let state = session.state;
     let mode = state.mode;
     let voice = voice_under(mode, call.mute);
@@ -293,9 +293,9 @@ fn accepted(session: Session, call: Call) -> Session {
 
 // One call. It is tried with silence first, since a refused one takes no voice.
 fn made(session: Session, call: Call) -> Session {
-    let mut line = [0u8; 160];
-    let silence = [0u8; 140];
-    let lsd = [0u8; 156];
+    let mut line = [0u8; buffers::LINE];
+    let silence = [0u8; buffers::VOICE];
+    let lsd = [0u8; buffers::LSD];
     let state = session.state;
     let trial = sender::send(state, call, &silence, &lsd, &mut line);
     let answer = trial.answer;

@@ -17,7 +17,7 @@ use Rattle.slots.specs.declared.Due.the-variants.{Plain}
 use Rattle.slots.proofs.RangeLaws.{obeyed-in-range}
 use Rattle.track.specs.State.{known, stateInRange, freshIn}
 use Rattle.track.specs.Signs.{signsOf}
-use Rattle.track.specs.Parts.{counted, wrongRun, modeBefore, readingOf, sought, compared, multiframeAfter}
+use Rattle.track.specs.Parts.{counted, wrongRun, modeBefore, wordRead, sought, compared, multiframeAfter}
 use Rattle.track.specs.Step.{nextOf, stepOf}
 use Rattle.track.specs.declared.Reader.{Reader}
 use Rattle.track.specs.declared.Signs.{Signs}
@@ -110,13 +110,13 @@ module _ (s : Reader) (g : Signs) (k : Kept s) (low : leb (g .remainder) 15 ≡ 
   next-kept : eqb (wrongRun s g) 3 ≡ false → Kept (nextOf s g (wrongRun s g))
   unfolding nextOf Low
   next-kept e =
-      let reading = readingOf s (g .word) in
+      let reading = wordRead s (g .word) in
       let m = obeyed-in-range reading (s .mode) (k .force) in
       let p = place-low s _ _ (k .misses-low) in
       record { force = m; back = back-kept (eqb (g .wrong) 0) m; wrong-low = low-run (s .wrong) (eqb (g .wrong) 0) (k .wrong-low) e; misses-low = p .0; rest = low; place = p .1 }
     where
-      back-kept : (b : Bool) → inRange (obeyed (readingOf s (g .word)) (s .mode)) ≡ true
-          → inRange (cond b (obeyed (readingOf s (g .word)) (s .mode)) (modeBefore s)) ≡ true
+      back-kept : (b : Bool) → inRange (obeyed (wordRead s (g .word)) (s .mode)) ≡ true
+          → inRange (cond b (obeyed (wordRead s (g .word)) (s .mode)) (modeBefore s)) ≡ true
       back-kept true m = m
       back-kept false m = before-kept s k
 

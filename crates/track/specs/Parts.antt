@@ -31,7 +31,7 @@ counted run right = cond right 0 (run + 1)
 abbrev pub wrongRun : Reader → Signs → ℕ
 wrongRun s g = counted (s .wrong) (eqb (g .wrong) 0)
 
--- the mode as it was before the first of a run: as that block found it
+-- the mode as it was before the first of a run: as that block found it (DECISIONS R3)
 abbrev pub modeBefore : Reader → Mode
 modeBefore s = cond (eqb (s .wrong) 0) (s .mode) (s .kept)
 
@@ -61,8 +61,8 @@ standingNumber Read = 1
 standingNumber Lost = 2
 
 -- multiframe place known at entry: the word is read in its slot. Unknown: it is not read
-abbrev pub readingOf : Reader → Word → Reading
-readingOf s word = cond (known s) (readingIn (dueOf (s .slot)) word) NotRead
+abbrev pub wordRead : Reader → Word → Reading
+wordRead s word = cond (known s) (readingIn (dueOf (s .slot)) word) NotRead
 
 abbrev pub dueRead : Reader → Word → Due
 dueRead s word = cond (known s) (dueAfter (dueOf (s .slot)) word) (standing (dueOf (s .slot)))
@@ -83,7 +83,8 @@ multiframe b misses due = record { block = b; misses = misses; due = due }
 abbrev pub sought : Bool → BlockNumber
 sought right = cond right (block 7) unknown
 
--- known: after block 6 the six are compared; third wrong in a row makes the place unknown, slots and that run start afresh
+-- known: after block 6 the six are compared; third wrong in a row makes the place unknown, slots and that run start afresh (DECISIONS R19,
+-- R20)
 abbrev pub compared : ℕ → Bool → Due → Multiframe
 compared misses right due =
     let run = counted misses right in

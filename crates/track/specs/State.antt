@@ -26,7 +26,7 @@ stateInRange s =
     inRange (s .mode) && inRange (s .kept) && leb (s .wrong) 2 && leb (s .misses) 2 && leb (s .remainder) 15 && leb (s .block .0) 8
 
 -- fresh but for the mode: place unknown, no word due, no run of wrong patterns and no block before. No first bits have come: they are
--- held as ones, and since 001011 begins with 0 it cannot be spelled before six have
+-- held as ones, and since 001011 begins with 0 it cannot be spelled before six have (DECISIONS R5, R29)
 abbrev pub freshIn : Mode → Reader
 freshIn m =
     record {

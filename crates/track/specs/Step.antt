@@ -6,7 +6,7 @@ use Rattle.slots.specs.Slots.{slotOf}
 use Rattle.slots.specs.Readings.{obeyed}
 use Rattle.slots.specs.declared.Reading.the-variants.{NotRead}
 use Rattle.track.specs.State.{freshIn}
-use Rattle.track.specs.Parts.{wrongRun, modeBefore, keptAfter, verdictOf, standingOf, readingOf, dueRead, sixAfter, spelled, multiframeAfter}
+use Rattle.track.specs.Parts.{wrongRun, modeBefore, keptAfter, verdictOf, standingOf, wordRead, dueRead, sixAfter, spelled, multiframeAfter}
 use Rattle.track.specs.declared.Reader.{Reader}
 use Rattle.track.specs.declared.Signs.{Signs}
 use Rattle.track.specs.declared.Report.{Report}
@@ -21,12 +21,12 @@ lostStep s =
 
 -- steps 2 to 4: the answer
 unfoldable pub reportOf : Reader → Signs → Report
-reportOf s g = record { standing = standingOf s; verdict = verdictOf s (g .c); reading = readingOf s (g .word) }
+reportOf s g = record { standing = standingOf s; verdict = verdictOf s (g .c); reading = wordRead s (g .word) }
 
 -- and the state that they leave: a command takes hold in the next block
 unfoldable pub nextOf : Reader → Signs → ℕ → Reader
 nextOf s g run =
-    let m = obeyed (readingOf s (g .word)) (s .mode) in
+    let m = obeyed (wordRead s (g .word)) (s .mode) in
     let six = sixAfter (s .firsts) (g .first) in
     let p = multiframeAfter s (spelled six) (dueRead s (g .word)) in
     record {

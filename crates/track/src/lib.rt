@@ -7,7 +7,7 @@ ghost use Rattle.modes.specs.Modes.{off, inRange};
 ghost use Rattle.service.specs.Channel.{wrongBits};
 ghost use Rattle.track.specs.State.{stateInRange, freshIn};
 ghost use Rattle.track.specs.Signs.{wordIn, signsOf};
-ghost use Rattle.track.specs.Parts.{counted, modeBefore, verdictOf, standingOf, readingOf, dueRead, sixAfter, compared, multiframeAfter, keptAfter};
+ghost use Rattle.track.specs.Parts.{counted, modeBefore, verdictOf, standingOf, wordRead, dueRead, sixAfter, compared, multiframeAfter, keptAfter};
 ghost use Rattle.track.specs.Step.{lostStep, reportOf, nextOf, onStep, stepOf};
 use bas::Word;
 use modes::BlockNumber;
@@ -18,7 +18,8 @@ use slots::Slot;
 
 // What a reader keeps between blocks: the mode in force; the mode before the first of a run of wrong alignment words, and that run; the
 // number of the next block, 0 while it is unknown; the odd-frame first bits since alignment, of which the last six count, as a number;
-// the run of wrong patterns; what is due; whether there is a block before, and its remainder. Laid out as in C for a card driver.
+// the run of wrong patterns; what is due; whether there is a block before, and its remainder (DECISIONS F19). Laid out as in C for a card
+// driver.
 #[repr(C)]
 pub struct Reader {
     pub mode: Mode,
@@ -183,7 +184,7 @@ fn verdict_of(s: Reader, c: u8) -> Verdict
 }
 
 fn reading_of(s: Reader, word: Word) -> Reading
-    ensures { λ r. ⌜ r ≡ readingOf s word ⌝ }
+    ensures { λ r. ⌜ r ≡ wordRead s word ⌝ }
 {
     let slot = s.slot;
     let block = s.block;

@@ -2,7 +2,8 @@
 // together. The work of a step is `recording::step`'s, or `recording::look`'s; here it is lent the walk's parts, and the walk moves by what
 // it gives.
 ghost use mathlib.Core.Path.{_≡_};
-ghost use Rattle.recording.specs.Walk.{stepAt, lookAt, voiceAt, lsdAt};
+ghost use Rattle.buffers.specs.Buffers.{each};
+ghost use Rattle.recording.specs.Walk.{stepAt, buffersAt, lookAt};
 ghost use Rattle.walk.specs.Walks.{opened, onward};
 use recording::Answer;
 use recording::Stepped;
@@ -35,9 +36,8 @@ pub fn open<'a>(recording: &'a [u8], place: usize, lost: bool) -> Walk<'a>
 
 // One step of a walk.
 pub fn step<'a>(w: Walk<'a>, reader: Reader, voice: &mut [u8], lsd: &mut [u8]) -> Onward<'a>
-    ensures { λ r. ⌜ (r ≡ onward (w .entry) (stepAt (now (w .entry .recording)) (w .entry .place) (w .entry .lost) reader (now (voice .entry)) (now (lsd .entry))))
-        × (now (voice .exit) ≡ voiceAt (now (w .entry .recording)) (w .entry .place) (w .entry .lost) reader (now (voice .entry)) (now (lsd .entry)))
-        × (now (lsd .exit) ≡ lsdAt (now (w .entry .recording)) (w .entry .place) (w .entry .lost) reader (now (voice .entry)) (now (lsd .entry))) ⌝ }
+    ensures { λ r. ⌜ (r ≡ onward (w .entry) (stepAt (now (w .entry .recording)) (w .entry .place) (w .entry .lost) reader (each (now (voice .entry)) (now (lsd .entry)))))
+        × (each (now (voice .exit)) (now (lsd .exit)) ≡ buffersAt (now (w .entry .recording)) (w .entry .place) (w .entry .lost) reader (each (now (voice .entry)) (now (lsd .entry)))) ⌝ }
 {
     let s = recording::step(w.recording, w.place, w.lost, reader, voice, lsd);
     Onward {
@@ -51,7 +51,8 @@ pub fn step<'a>(w: Walk<'a>, reader: Reader, voice: &mut [u8], lsd: &mut [u8]) -
     }
 }
 
-// A step from a place of a recording, by a walk that is opened there. Its contract speaks of no walk, so the prover covers its callers.
+// A step from a place of a recording, by a walk that is opened there. Its contract speaks of no walk, so the prover covers its callers
+// (DECISIONS F21).
 pub fn step_from(
     recording: &[u8],
     place: usize,
@@ -60,9 +61,8 @@ pub fn step_from(
     voice: &mut [u8],
     lsd: &mut [u8],
 ) -> Stepped
-    ensures { λ r. ⌜ (r ≡ stepAt (now (recording .entry)) place lost reader (now (voice .entry)) (now (lsd .entry)))
-        × (now (voice .exit) ≡ voiceAt (now (recording .entry)) place lost reader (now (voice .entry)) (now (lsd .entry)))
-        × (now (lsd .exit) ≡ lsdAt (now (recording .entry)) place lost reader (now (voice .entry)) (now (lsd .entry))) ⌝ }
+    ensures { λ r. ⌜ (r ≡ stepAt (now (recording .entry)) place lost reader (each (now (voice .entry)) (now (lsd .entry))))
+        × (each (now (voice .exit)) (now (lsd .exit)) ≡ buffersAt (now (recording .entry)) place lost reader (each (now (voice .entry)) (now (lsd .entry)))) ⌝ }
 {
     let o = step(open(recording, place, lost), reader, voice, lsd);
     Stepped {

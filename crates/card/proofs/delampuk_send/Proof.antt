@@ -42,7 +42,9 @@ use denote.Triple.Clauses.{ensured, lasts}
 use denote.Triple.Table.{entered, cited}
 use denote.Triple.Walked.{says, Stays, stay-ref, stay-none, stay-none-slice, gave-slice, walkOf, AllGo, goes-ref, goes-none, goes-none-slice, goes-gave-slice, Walks, ends-at, walked, walk-meets}
 use denote.Exit.{yes}
-use Rattle.card.specs.Sending.{sent, lineSent}
+use Rattle.buffers.specs.Buffers.{each}
+use Rattle.sender.specs.Step.{lineOf}
+use Rattle.card.specs.Sending.{callOf, sent}
 use Rattle.control.specs.declared.Sender.{Sender}
 use Rattle.card.specs.declared.SendStepped.{SendStepped}
 use Rattle.control.proofs.Sender as T
@@ -109,7 +111,7 @@ module _ {M : Type 1} (𝓤 : URA M) (H : Heap 𝓤) (A : Atoms 𝓤) (W : Given
 
   -- what `send_step` says
   abbrev Said : SendStepped → List ℕ → Type 0
-  Said r z-line = (r ≡ sent h the-mute the-code the-a the-e the-t (the-voice .now) (the-lsd .now) (the-line .now)) × (z-line ≡ lineSent h the-mute the-code the-a the-e the-t (the-voice .now) (the-lsd .now) (the-line .now))
+  Said r z-line = (r ≡ sent h (callOf the-mute the-code the-a the-e the-t) (each (the-voice .now) (the-lsd .now)) (the-line .now)) × (z-line ≡ lineOf h (callOf the-mute the-code the-a the-e the-t) (each (the-voice .now) (the-lsd .now)) (the-line .now))
 
   abbrev Post : Val → SProp 𝓤
   Post = walkOf 𝓤 H A delampuk-send′.ended stayed (delampuk-send′.clauses 𝓤 H A at-mem run) .post (((κ, κs), (q, qs), tt, x, at), tt)

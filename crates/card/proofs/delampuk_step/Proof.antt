@@ -6,7 +6,7 @@ use Rattle.card.proofs.delampuk_step.Tie as tie
 
 returns : tie.Need-returns
 returns c =
-    step-is _ _ (c .before .before .before .before .before .before .before .before .before .before .before .before .before .before .args .lost) _ _ _ _ _ _ _ _ _
+    step-is _ _ (c .before .before .before .before .before .before .before .before .before .before .before .before .before .before .args .lost) _ _ _ _ _ _ _
     (c .before .before .before .before .before .before .before .before .before .before .is-on .ensures)
     (c .before .before .before .before .before .before .before .step-from .ensures)
     (c .before .mark-after .ensures)

@@ -6,7 +6,8 @@ use Rattle.card.proofs.send_step.Tie as tie
 
 returns : tie.Need-returns
 returns c =
-    sent-is _ _ _ _ _ _ _ _ _ _ _ _ _ _ _ _
+    let a = c .before .before .before .before .before .before .before .before .before .before .before .before .before .args in
+    sent-is _ (a .mute) (a .code) (a .a) (a .e) (a .t) _ _ _ _ _ _ _ _ _
     (c .before .before .before .before .before .before .before .before .before .is-on .ensures)
     (c .before .before .before .before .before .before .before .before .is-on2 .ensures)
     (c .before .before .before .before .before .before .before .is-on3 .ensures)

@@ -1,14 +1,15 @@
--- `demo::quiet` is safe and ends: each block has its 160 octets of the recording, and the counter goes up to a bound.
+-- `demo::quiet` is safe and ends: each block has its lineOctets octets of the recording, and the counter goes up to a bound.
 use mathlib.Core.Path.{_≡_, refl}
 use Prim.Native.Nat.{_+_, _*_, _-_, _≤_}
 use native.Mathlib.Omega.{arith}
 use lib.ListN.{length}
 use Rattle.demo.proofs.quiet.Statement.{statement}
+use Rattle.buffers.specs.Lengths.{lineOctets}
 use Rattle.demo.proofs.quiet.Tie as tie
 
 abbrev Inv-loop : tie.InvT-loop
 Inv-loop recording₀ lesson₀ i₀ t7 recording lesson i =
-    (i ≤ 6) × (lesson .end ≤ lesson₀ .end + 160 * i) × (length recording ≡ length recording₀)
+    (i ≤ 6) × (lesson .end ≤ lesson₀ .end + lineOctets * i) × (length recording ≡ length recording₀)
 
 abbrev μ-loop : tie.MeasureT-loop
 μ-loop recording₀ lesson₀ i₀ t7 recording lesson i = 6 - i

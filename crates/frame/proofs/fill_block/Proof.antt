@@ -8,7 +8,7 @@ use lib.ListN.{length, drop, length-drop}
 use lib.Seq.{length-take-le}
 use Rattle.bits.specs.Bits.{lowBits, bitsOf}
 use Rattle.bits.proofs.BitLaws.{length-lowBits}
-use Rattle.frame.specs.Block.{heard, streams}
+use Rattle.frame.specs.Block.{heard, byOwner}
 use Rattle.frame.specs.Frame.{frameBy}
 use Rattle.places.specs.Layout.{sc}
 use Rattle.places.proofs.LayoutLaws.{eights-through}
@@ -55,9 +55,9 @@ returns c =
     second-half (even .last .0) (drop 80 (now (a .line))) (odd .last .0) e (simp length-drop (omega arith))
     ∙ ap₂ _++_ (even .ensures ∙ sym (even-half (a .p) es os vs ds (length-lowBits 16 (a .service .even))))
     (odd .ensures
-    ∙ ap (λ (k : ℕ). frameBy (a .p) (streams os (drop (80 * a .p .width) vs) (drop (80 * a .p .columns + k) ds))) sc-is
+    ∙ ap (λ (k : ℕ). frameBy (a .p) (byOwner os (drop (80 * a .p .width) vs) (drop (80 * a .p .columns + k) ds))) sc-is
     ∙ ap (frameBy (a .p)) (sym (odd-half (a .p) es os vs ds (s .pre .1 .apart) (length-lowBits 16 (a .service .even)))))
-    ∙ sym (two-frames (a .p) (streams (es ++ os) vs ds) (omega arith))
+    ∙ sym (two-frames (a .p) (byOwner (es ++ os) vs ds) (omega arith))
 
 pub fill-block-spec : {M : Type 1} → statement M
 fill-block-spec =

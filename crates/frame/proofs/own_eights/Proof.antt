@@ -57,7 +57,7 @@ cut-requires : tie.Need-cut-requires
 cut-requires c κs =
     let s = c .before .before .before .before .before .before .before .before in
     let a = s .args in
-    (s .pre .0 .0, omega (arith, s .pre .1 .0 .runs), omega arith, omega arith, s .pre .1 .1 .0)
+    (s .pre .0 .0, omega (arith, s .pre .1 .0 .runs), omega arith, omega arith, omega (arith, s .pre .1 .1 .0))
 
 returns-2 : tie.Need-returns-2
 returns-2 c =

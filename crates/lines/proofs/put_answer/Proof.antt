@@ -5,7 +5,6 @@ use Rattle.lines.proofs.put_answer.Statement.{statement}
 use Rattle.lines.proofs.put_answer.Tie as tie
 
 returns : tie.Need-returns
-unfolding textOf
 returns c = rw (c .before .before .before .before .before .answer .given .1) (c .before .before .put-block .ensures)
 
 returns-2 : tie.Need-returns-2

@@ -1,7 +1,7 @@
 -- `lines::put_block` meets its contract: eight pieces.
 use Rattle.text.specs.Words.{textOf}
 use Rattle.text.proofs.OverLaws.{written-then}
-use Rattle.lines.specs.Listing.{blockLine}
+use Rattle.lines.specs.Lines.{blockLine}
 use borrow.Author.Needs.{needs}
 use Rattle.lines.proofs.put_block.Statement.{statement}
 use Rattle.lines.proofs.put_block.Tie as tie

@@ -1,7 +1,7 @@
 -- `listing::main` meets its contract: every listing fits its buffer.
 use native.Mathlib.Omega.{arith}
 use lib.ListN.{length-take}
-use Rattle.lines.proofs.ListingLaws.{listed-fits}
+use Rattle.scribe.proofs.ListingLaws.{listed-fits}
 use borrow.Author.Needs.{needs}
 use Rattle.listing.proofs.main.Statement.{statement}
 use Rattle.listing.proofs.main.Tie as tie

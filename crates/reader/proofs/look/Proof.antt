@@ -9,7 +9,7 @@ use Rattle.reader.proofs.look.Tie as tie
 
 step-requires : tie.Need-step-requires
 step-requires c κs =
-    let t = taken _ _ _ _ (sym (c .before .before .ruling-of .ensures) ∙ c .enum-told .given .1) in
+    let t = taken _ _ _ (sym (c .before .before .ruling-of .ensures) ∙ c .enum-told .given .1) in
     let k = kept _ (t .range) in
     (k .wrong-low, k .misses-low)
 

@@ -4,6 +4,7 @@ use Prim.Native.Nat.{_+_, _-_}
 use native.Mathlib.Omega.{arith}
 use denote.Ref.{now}
 use borrow.Author.Needs.{needs}
+use Rattle.buffers.specs.Lengths.{lineOctets}
 use Rattle.recording.specs.Walk.{lookAt}
 use Rattle.recording.proofs.StepLaws.{lent-block, Met, met, block-looked}
 use Rattle.recording.proofs.look.Statement.{statement}
@@ -38,7 +39,7 @@ returns-2 c =
     let a = c .before .before .before .before .before .before .args in
     let r = now (a .recording) in
     block-looked r (a .place) (a .lost) (a .s) (meets (c .before .before .before)) _ _ _
-    (lent-block (a .place + 160 - a .place) (a .place) r (omega arith)) (c .before .look .ensures) (c .moved-on .ensures)
+    (lent-block (a .place + lineOctets - a .place) (a .place) r (omega arith)) (c .before .look .ensures) (c .moved-on .ensures)
 
 pub look-spec : {M : Type 1} → statement M
 look-spec =

@@ -11,7 +11,7 @@ seek-or-end-requires : tie.Need-seek-or-end-requires
 seek-or-end-requires c κs =
     let st = c .before .before .before .before in
     let a = st .args in
-    let g = goes _ _ _ _ _ (sym (c .before .before .ruling-of .ensures) ∙ c .enum-told .given .1) in
+    let g = goes _ _ _ _ (sym (c .before .before .ruling-of .ensures) ∙ c .enum-told .given .1) in
     (g .inside, off-here (length (now (a .recording))) (a .place) (a .lost) (st .pre) (g .small))
 
 returns : tie.Need-returns

@@ -4,6 +4,8 @@ use Prim.Native.Nat.{_+_, _-_}
 use native.Mathlib.Omega.{arith}
 use denote.Ref.{now}
 use borrow.Author.Needs.{needs}
+use Rattle.buffers.specs.Buffers.{each}
+use Rattle.buffers.specs.Lengths.{lineOctets}
 use Rattle.recording.proofs.StepLaws.{lent-block, Met, met, block-stepped, off-stepped}
 use Rattle.recording.proofs.step.Statement.{statement}
 use Rattle.recording.proofs.step.Tie as tie
@@ -14,7 +16,7 @@ off-by-ruling-requires c κs = sym (c .before .off-block .ensures) ∙ c .if1 .t
 returns : tie.Need-returns
 returns c =
     let a = c .before .before .before .before .before .before .args in
-    off-stepped (now (a .recording)) (a .place) (a .lost) (a .s) (now (a .voice)) (now (a .lsd))
+    off-stepped (now (a .recording)) (a .place) (a .lost) (a .s) (each (now (a .voice)) (now (a .lsd)))
     (sym (c .before .before .off-block .ensures) ∙ c .before .if1 .taken) _ (c .off-by-ruling .ensures)
 
 -- what the test of the place says where a block is met
@@ -38,8 +40,8 @@ returns-2 : tie.Need-returns-2
 returns-2 c =
     let a = c .before .before .before .before .before .before .before .before .before .before .before .before .before .before .args in
     let r = now (a .recording) in
-    block-stepped r (a .place) (a .lost) (a .s) (meets (c .before .before .before .before .before .before .before .before .before)) _ (now (a .voice)) (now (a .lsd)) _ _ _ _
-    (lent-block (a .place + 160 - a .place) (a .place) r (omega arith)) (c .before .before .before .before .before .read .ensures) (c .moved-on .ensures)
+    block-stepped r (a .place) (a .lost) (a .s) (meets (c .before .before .before .before .before .before .before .before .before)) _ (each (now (a .voice)) (now (a .lsd))) _ _ _
+    (lent-block (a .place + lineOctets - a .place) (a .place) r (omega arith)) (c .before .before .before .before .before .read .ensures) (c .moved-on .ensures)
 
 pub step-spec : {M : Type 1} → statement M
 step-spec =

@@ -2,13 +2,14 @@
 use Prim.Native.Nat.{_-_, _≤_}
 use native.Mathlib.Omega.{arith}
 use Rattle.session.proofs.print_line.Statement.{statement}
+use Rattle.buffers.specs.Lengths.{lineOctets}
 use Rattle.session.proofs.print_line.Tie as tie
 
 abbrev Inv-loop : tie.InvT-loop
 Inv-loop line i₀ t3 i = 0 ≤ i
 
 abbrev μ-loop : tie.MeasureT-loop
-μ-loop line i₀ t3 i = 160 - i
+μ-loop line i₀ t3 i = lineOctets - i
 
 loop-holds : tie.Need-loop-holds Inv-loop μ-loop
 loop-holds c = omega arith

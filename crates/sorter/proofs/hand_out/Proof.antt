@@ -2,8 +2,8 @@
 use borrow.Author.Needs.{needs}
 use borrow.Author.Tests.{not-true, not-false}
 use native.Mathlib.Omega.{arith}
-use mathlib.Core.Path.{_≡_, sym, subst, _∙_}
-use mathlib.Core.Bool.{true}
+use mathlib.Core.Path.{_≡_, ap, ap₂, sym, subst, _∙_}
+use mathlib.Core.Bool.{true, false}
 use mathlib.Core.List.{List, _++_}
 use Prim.Native.Nat.{ℕ}
 use denote.Ref.{now}
@@ -14,13 +14,14 @@ use Rattle.modes.specs.declared.Owner.{Owner}
 use Rattle.modes.specs.declared.Owner.the-variants.{Voice, Lsd}
 use Rattle.places.specs.Streams.{sort}
 use Rattle.places.specs.Places.{places}
-use Rattle.buffers.specs.Lengths.{fitting}
+use Rattle.buffers.specs.Buffers.{Each, each, lengths}
+use Rattle.buffers.specs.Lengths.{streamOctets, fitting}
 use Rattle.places.specs.Layout.{Apart, layoutOf, rowsBy}
 use Rattle.places.specs.declared.Layout.{Layout}
 use Rattle.places.proofs.LayoutLaws.{rows-are, apart-of}
-use Rattle.buffers.proofs.LengthLaws.{lengths}
-use Rattle.sorter.specs.Sorting.{sortedOf}
-use Rattle.sorter.proofs.HandLaws.{left-alone, sorted-out}
+use Rattle.buffers.proofs.LengthLaws.{fit-lengths}
+use Rattle.sorter.specs.Sorting.{sortedOf, streamsOf}
+use Rattle.sorter.proofs.HandLaws.{told}
 use Rattle.sorter.proofs.hand_out.Statement.{statement}
 use Rattle.sorter.proofs.hand_out.Tie as tie
 
@@ -36,12 +37,12 @@ apart-by m p e = subst Apart (sym e) (apart-of m)
 returns : tie.Need-returns
 returns c =
     let a = c .before .before .before .before .before .args in
-    left-alone (a .mode) (now (a .line)) (now (a .voice)) (now (a .lsd)) (sym (c .before .lengths-fit .ensures) ∙ not-true _ (c .if1 .taken))
+    told (a .mode) (now (a .line)) (each (now (a .voice)) (now (a .lsd))) false (sym (c .before .lengths-fit .ensures) ∙ not-true _ (c .if1 .taken))
 
 sort-voice-requires : tie.Need-sort-voice-requires
 sort-voice-requires c κs =
     let a = c .before .before .before .before .before .before .before .args in
-    let fit = lengths _ _ _ (sym (c .before .before .before .lengths-fit .ensures) ∙ not-false _ (c .before .before .if1 .left)) in
+    let fit = fit-lengths _ _ (sym (c .before .before .before .lengths-fit .ensures) ∙ not-false _ (c .before .before .if1 .left)) in
     let l = c .before .layout-of in
     let apart = apart-by (a .mode) (l .result) (l .ensures) in
     (apart, fit .0)
@@ -49,21 +50,26 @@ sort-voice-requires c κs =
 sort-lsd-requires : tie.Need-sort-lsd-requires
 sort-lsd-requires c κs =
     let a = c .before .before .before .before .before .before .before .before .before .before .before .args in
-    let fit = lengths _ _ _ (sym (c .before .before .before .before .before .before .before .lengths-fit .ensures) ∙ not-false _ (c .before .before .before .before .before .before .if1 .left)) in
+    let fit = fit-lengths _ _ (sym (c .before .before .before .before .before .before .before .lengths-fit .ensures) ∙ not-false _ (c .before .before .before .before .before .before .if1 .left)) in
     let l = c .before .before .before .before .before .layout-of in
     let apart = apart-by (a .mode) (l .result) (l .ensures) in
-    (apart, (fit .0, omega (arith, fit .2)))
+    (apart, (fit .0, omega (arith, ap (λ (n : Each ℕ). n .lsd) (fit .1))))
 
 returns-2 : tie.Need-returns-2
+unfolding streamsOf
 returns-2 c =
     let a = c .before .before .before .before .before .before .before .before .before .before .before .before .before .before .args in
     let l = c .before .before .before .before .before .before .before .before .layout-of in
-    let yes : fitting (length (now (a .line))) (length (now (a .voice))) (length (now (a .lsd))) ≡ true =
+    let yes : fitting (length (now (a .line))) (lengths (each (now (a .voice)) (now (a .lsd)))) ≡ true =
     sym (c .before .before .before .before .before .before .before .before .before .before .lengths-fit .ensures) ∙ not-false _ (c .before .before .before .before .before .before .before .before .before .if1 .left) in
-    let fit = lengths _ _ _ yes in
-    sorted-out (a .mode) (now (a .line)) (now (a .voice)) (now (a .lsd)) _ _ yes
-    (by-owner (a .mode) (l .result) Voice _ 140 (now (a .line)) _ (l .ensures) (fit .1) (c .before .before .before .before .before .before .sort-voice .ensures))
-    (by-owner (a .mode) (l .result) Lsd _ 156 (now (a .line)) _ (l .ensures) (fit .2) (c .before .before .sort-lsd .ensures))
+    let fit = fit-lengths _ _ yes in
+    let said = told (a .mode) (now (a .line)) (each (now (a .voice)) (now (a .lsd))) true yes in (
+      said .0,
+      ap₂ each
+          (by-owner (a .mode) (l .result) Voice _ (streamOctets .voice) (now (a .line)) _ (l .ensures) (ap (λ (n : Each ℕ). n .voice) (fit .1)) (c .before .before .before .before .before .before .sort-voice .ensures))
+          (by-owner (a .mode) (l .result) Lsd _ (streamOctets .lsd) (now (a .line)) _ (l .ensures) (ap (λ (n : Each ℕ). n .lsd) (fit .1)) (c .before .before .sort-lsd .ensures))
+          ∙ said .1,
+    )
 
 pub hand-out-spec : {M : Type 1} → statement M
 hand-out-spec =

@@ -14,6 +14,7 @@ use Rattle.places.specs.Streams.{sort}
 use Rattle.places.specs.declared.Layout.{Layout}
 use Rattle.packing.specs.Filled.{Filled}
 use Rattle.packing.proofs.FillLaws.{cleared, filled-with}
+use Rattle.buffers.specs.Lengths.{lineOctets}
 use Rattle.sorter.specs.Sofar.{sofar}
 use Rattle.sorter.proofs.SortLaws.{none-yet, bits-alone, lsd-bits, block-all}
 use Rattle.sorter.proofs.sort_with_sc.Statement.{statement}
@@ -40,7 +41,7 @@ returns c =
     let blank = c .before .before .before .before .before .before .before .before .before .before .before .before .clear in
     let even = c .before .before .before .before .before .before .sort-frame in
     let odd = c .before .before .sort-frame2 in
-    filled-with (sofar (a .p) Lsd line 160) _ _ (length (now (a .out))) _ (odd .ensures .1 (even .ensures .1 (begun (a .p) line _ (length (now (a .out))) (blank .ensures))))
+    filled-with (sofar (a .p) Lsd line lineOctets) _ _ (length (now (a .out))) _ (odd .ensures .1 (even .ensures .1 (begun (a .p) line _ (length (now (a .out))) (blank .ensures))))
     (odd .kept .1 .1 .1 .0 ∙ even .kept .1 .1 .1 .0 ∙ blank .kept .0)
     (ap (λ (ps : List Owner). sort Lsd ps (bitsOf line)) (block-all (a .p)))
 
@@ -56,7 +57,7 @@ returns-2 c =
     let blank = c .before .before .before .before .before .before .before .before .before .before .before .before .before .before .clear in
     let even = c .before .before .before .before .before .before .sort-bits in
     let odd = c .before .before .sort-bits2 in
-    filled-with (sofar p Lsd line 160) _ (odd .result) (length (now (a .out))) (odd .last .1 .1 .1 .0)
+    filled-with (sofar p Lsd line lineOctets) _ (odd .result) (length (now (a .out))) (odd .last .1 .1 .1 .0)
     (rw (lsd-bits p line 80 (p .first + 79) (p .last + 80) h none (s .pre .1 .0) refl (omega arith) (omega arith) (omega arith))
     (odd .ensures .1 (sofar p Lsd line 80)
     (rw (lsd-bits p line 0 (p .first - 1) (p .last) h none (s .pre .1 .0) refl (omega arith) (omega arith) (omega arith))

@@ -40,7 +40,8 @@ use denote.Triple.Clauses.{ensured, lasts}
 use denote.Triple.Table.{entered, cited}
 use denote.Triple.Walked.{says, Stays, stay-none, gave-slice, walkOf, AllGo, goes-none, goes-gave-slice, Walks, ends-at, walked, walk-meets}
 use denote.Exit.{yes}
-use Rattle.recording.specs.Walk.{stepAt, voiceAt, lsdAt}
+use Rattle.buffers.specs.Buffers.{each}
+use Rattle.recording.specs.Walk.{stepAt, buffersAt}
 use Rattle.walk.specs.declared.Walk.{Walk}
 use Rattle.walk.proofs.Walk as T
 use Rattle.walk.proofs.Walk.Laws as T′
@@ -130,7 +131,7 @@ module _ {M : Type 1} (𝓤 : URA M) (H : Heap 𝓤) (A : Atoms 𝓤) (W : Given
 
   -- what `recording::step` says
   abbrev Said : Stepped → List ℕ → List ℕ → Type 0
-  Said r z-voice z-lsd = (r ≡ stepAt (d .recording .now) (d .place) (d .lost) the-reader (the-voice .now) (the-lsd .now)) × (z-voice ≡ voiceAt (d .recording .now) (d .place) (d .lost) the-reader (the-voice .now) (the-lsd .now)) × (z-lsd ≡ lsdAt (d .recording .now) (d .place) (d .lost) the-reader (the-voice .now) (the-lsd .now))
+  Said r z-voice z-lsd = (r ≡ stepAt (d .recording .now) (d .place) (d .lost) the-reader (each (the-voice .now) (the-lsd .now))) × ((each z-voice z-lsd) ≡ buffersAt (d .recording .now) (d .place) (d .lost) the-reader (each (the-voice .now) (the-lsd .now)))
 
   abbrev Post : Val → SProp 𝓤
   Post = walkOf 𝓤 H A step′.ended stayed (step′.clauses 𝓤 H A mem run) .post ((κs, qs, tt, x, at), tt)
@@ -177,7 +178,7 @@ module _ {M : Type 1} (𝓤 : URA M) (H : Heap 𝓤) (A : Atoms 𝓤) (W : Given
   exits : (r : Stepped) (z-voice : List ℕ) (z-lsd : List ℕ) → Said r z-voice z-lsd → length z-voice ≡ length (the-voice .now) → length z-lsd ≡ length (the-lsd .now) → IsStepped r → ent 𝓤 (⋆ 𝓤 H A ((‵ (flft κ q) ⊛ tokens) ∷ ‵ (finally u8 (the-voice .name) z-voice) ∷ ‵ (finally u8 (the-lsd .name) z-lsd) ∷ ‵ Own ∷ ‵ Own ∷ [])) (Post (mach-on r))
   exits r z-voice z-lsd e l-voice l-lsd is =
       qed W ((‵ (flft κ q) ⊛ tokens) ∷ ‵ (finally u8 (the-voice .name) z-voice) ∷ ‵ (finally u8 (the-lsd .name) z-lsd) ∷ ‵ Own ∷ ‵ Own ∷ []) ∵
-      suffices ! _ (ends-at 𝓤 H A step′.ended stayed (step′.clauses 𝓤 H A mem run) W ((κs, qs, tt, x, at), tt) (mach-on r) (result r) (tt, (tt, (z-voice, (z-lsd, tt)))) (tt, (tt, (l-voice, (l-lsd, tt))))) $ says ! (ap result (e .0), e .1, e .2) $ frame ! $
+      suffices ! _ (ends-at 𝓤 H A step′.ended stayed (step′.clauses 𝓤 H A mem run) W ((κs, qs, tt, x, at), tt) (mach-on r) (result r) (tt, (tt, (z-voice, (z-lsd, tt)))) (tt, (tt, (l-voice, (l-lsd, tt))))) $ says ! (ap result (e .0), e .1) $ frame ! $
       -- what is had of the parameters, the last first
       nothing ! $ move ! (2 ∷ 0 ∷ []) $ fjoin ! $ move ! (1 ∷ 0 ∷ []) $ fjoin ! $ owned ! Reader.the-row (Is Reader.the-row) (LL.makes Reader.the-type Reader′.the-plain 𝓤 H A) (the-reader) _ reader-is $ fjoin ! $ move ! (1 ∷ 0 ∷ []) $ fjoin ! $ frame ! $
       -- the result, of the recording and of what came back

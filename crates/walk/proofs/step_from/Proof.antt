@@ -39,7 +39,8 @@ use denote.Triple.Clauses.{ensured, lasts}
 use denote.Triple.Table.{entered, cited}
 use denote.Triple.Walked.{says, Stays, stay-none, stay-none-slice, gave-slice, walkOf, AllGo, goes-none, goes-none-slice, goes-gave-slice, Walks, ends-at, walked, walk-meets}
 use denote.Exit.{yes}
-use Rattle.recording.specs.Walk.{stepAt, voiceAt, lsdAt}
+use Rattle.buffers.specs.Buffers.{each}
+use Rattle.recording.specs.Walk.{stepAt, buffersAt}
 use Rattle.walk.specs.Walks.{opened, onward}
 use Rattle.walk.specs.declared.Walk.{Walk}
 use Rattle.walk.proofs.Walk as T
@@ -165,7 +166,7 @@ module _ {M : Type 1} (𝓤 : URA M) (H : Heap 𝓤) (A : Atoms 𝓤) (W : Given
       qed W (‵ (BW .own w (u ∷ [])) ∷ token ∷ (tokens ⊛ ‵ others) ∷ []) ∵ move ! (2 ∷ []) $ split ! $ move ! (2 ∷ 1 ∷ []) $ fjoin ! $ move ! (2 ∷ []) $ split ! $ move ! (1 ∷ []) $ drop ! $ move ! (0 ∷ 2 ∷ []) $ join ! $ join ! $ frame ! $ done !
 
   abbrev StepSaid : Walk → Onward → List ℕ → List ℕ → Type 0
-  StepSaid w o z-voice z-lsd = (o ≡ onward w (stepAt (w .recording .now) (w .place) (w .lost) the-reader (the-voice .now) (the-lsd .now))) × (z-voice ≡ voiceAt (w .recording .now) (w .place) (w .lost) the-reader (the-voice .now) (the-lsd .now)) × (z-lsd ≡ lsdAt (w .recording .now) (w .place) (w .lost) the-reader (the-voice .now) (the-lsd .now))
+  StepSaid w o z-voice z-lsd = (o ≡ onward w (stepAt (w .recording .now) (w .place) (w .lost) the-reader (each (the-voice .now) (the-lsd .now)))) × ((each z-voice z-lsd) ≡ buffersAt (w .recording .now) (w .place) (w .lost) the-reader (each (the-voice .now) (the-lsd .now)))
 
   -- the result, of what `step` returned
   abbrev out : Onward → Stepped
@@ -175,10 +176,10 @@ module _ {M : Type 1} (𝓤 : URA M) (H : Heap 𝓤) (A : Atoms 𝓤) (W : Given
   mach-out y = LL.val S.the-type S′.the-laws y
 
   abbrev Said : Stepped → List ℕ → List ℕ → Type 0
-  Said r z-voice z-lsd = (r ≡ stepAt (x-in .now) x-place x-lost the-reader (the-voice .now) (the-lsd .now)) × (z-voice ≡ voiceAt (x-in .now) x-place x-lost the-reader (the-voice .now) (the-lsd .now)) × (z-lsd ≡ lsdAt (x-in .now) x-place x-lost the-reader (the-voice .now) (the-lsd .now))
+  Said r z-voice z-lsd = (r ≡ stepAt (x-in .now) x-place x-lost the-reader (each (the-voice .now) (the-lsd .now))) × ((each z-voice z-lsd) ≡ buffersAt (x-in .now) x-place x-lost the-reader (each (the-voice .now) (the-lsd .now)))
 
   both-said : (w : Walk) (o : Onward) (z-voice : List ℕ) (z-lsd : List ℕ) → OpenSaid w → StepSaid w o z-voice z-lsd → Said (out o) z-voice z-lsd
-  both-said w o z-voice z-lsd e f = (ap out (f .0) ∙ ap (λ (y : Walk). stepAt (y .recording .now) (y .place) (y .lost) the-reader (the-voice .now) (the-lsd .now)) e, f .1 ∙ ap (λ (y : Walk). voiceAt (y .recording .now) (y .place) (y .lost) the-reader (the-voice .now) (the-lsd .now)) e, f .2 ∙ ap (λ (y : Walk). lsdAt (y .recording .now) (y .place) (y .lost) the-reader (the-voice .now) (the-lsd .now)) e)
+  both-said w o z-voice z-lsd e f = (ap out (f .0) ∙ ap (λ (y : Walk). stepAt (y .recording .now) (y .place) (y .lost) the-reader (each (the-voice .now) (the-lsd .now))) e, f .1 ∙ ap (λ (y : Walk). buffersAt (y .recording .now) (y .place) (y .lost) the-reader (each (the-voice .now) (the-lsd .now))) e)
 
   is-out : (o : Onward) (u : Val) → Is BU o (u ∷ []) → Is S.the-row (out o) (mach-out (out o) ∷ [])
   is-out o u is =

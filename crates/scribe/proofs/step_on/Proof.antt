@@ -1,10 +1,10 @@
--- `lines::step_on` meets its contract: no row refuses the look.
+-- `scribe::step_on` meets its contract: no row refuses the look.
 use mathlib.Core.Path.{refl, _∙_}
 use denote.Ref.{now}
 use Rattle.recording.proofs.StepLaws.{look-here}
 use borrow.Author.Needs.{needs}
-use Rattle.lines.proofs.step_on.Statement.{statement}
-use Rattle.lines.proofs.step_on.Tie as tie
+use Rattle.scribe.proofs.step_on.Statement.{statement}
+use Rattle.scribe.proofs.step_on.Tie as tie
 
 returns : tie.Need-returns
 returns c =
@@ -12,8 +12,7 @@ returns c =
     let a = st .args in
     c .look-from .ensures ∙ look-here (now (a .recording)) (a .place) (a .lost) (a .s) (record {
       range = st .pre .0;
-      heard = refl;
-      given = refl;
+      streams = refl;
       small = st .pre .1;
       inside = st .pre .2;
     })

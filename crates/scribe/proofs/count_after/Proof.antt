@@ -1,7 +1,7 @@
--- `lines::count_after` meets its contract: a block counts, and nothing else.
+-- `scribe::count_after` meets its contract: a block counts, and nothing else.
 use borrow.Author.Needs.{needs}
-use Rattle.lines.proofs.count_after.Statement.{statement}
-use Rattle.lines.proofs.count_after.Tie as tie
+use Rattle.scribe.proofs.count_after.Statement.{statement}
+use Rattle.scribe.proofs.count_after.Tie as tie
 
 returns : tie.Need-returns
 returns c = rw (c .before .answer .given .1)

@@ -2,27 +2,17 @@
 use mathlib.Core.Path.{_≡_, refl, sym, ap, subst, _∙_}
 use mathlib.Core.Bool.{Bool, true, false, cond}
 use mathlib.Core.List.{List, [], _++_, append-nil, append-assoc}
-use Prim.Native.String.{String}
 use Prim.Native.Nat.{ℕ, zero, suc, _+_, _*_, _-_, _≤_, _<_}
 use native.Mathlib.Omega.{arith}
 use lib.Dec.{ltb}
 use lib.ListN.{length, length-append}
 use borrow.Author.Tests.{ltb-false}
+use Rattle.buffers.specs.Lengths.{lineOctets}
 use Rattle.bits.specs.Bits.{digit}
-use Rattle.slots.specs.declared.Reading.{Reading}
-use Rattle.slots.specs.declared.Reading.the-variants.{Mended, Item, MessageWord, ForbiddenItem, NotFollowed, Unreadable, NotRead}
 use Rattle.text.specs.Over.{Written}
-use Rattle.text.specs.Digits.{hexOf}
-use Rattle.text.specs.Words.{textOf}
-use Rattle.text.proofs.Decimal.{decimal-three, decimal-five}
 use Rattle.text.proofs.OverLaws.{written-none, written-then, written-length}
 use Rattle.track.specs.State.{stateInRange}
 use Rattle.track.specs.declared.Reader.{Reader}
-use Rattle.track.specs.declared.Report.{Report}
-use Rattle.track.specs.declared.Standing.{Standing}
-use Rattle.track.specs.declared.Standing.the-variants.{Waiting, Read, Lost}
-use Rattle.track.specs.declared.Verdict.{Verdict}
-use Rattle.track.specs.declared.Verdict.the-variants.{None, Good, Bad}
 use Rattle.track.proofs.RangeLaws.{fresh-in-range}
 use Rattle.search.specs.Finding.{searchOf}
 use Rattle.refusals.specs.Numbers.{numberOf}
@@ -34,24 +24,26 @@ use Rattle.recording.specs.declared.Answer.{Answer}
 use Rattle.recording.specs.declared.Answer.the-variants.{Block, Place, End, Refused}
 use Rattle.recording.specs.declared.Stepped.{Stepped}
 use Rattle.recording.proofs.StepLaws.{reader-in-range, place-inside}
-use Rattle.lines.specs.Listing.{numberLine, standingText, verdictText, codeText, blockLine, lineOf, isLast, countAfter, linesFrom, begun, listingBy, listingOf}
+use Rattle.lines.specs.Lines.{numberLine, blockLine, lineText}
+use Rattle.lines.proofs.LineLaws.{block-length, number-length, words-length}
+use Rattle.scribe.specs.Listing.{isLast, countAfter, linesFrom, begun, listingBy, listingOf}
 
 -- ---- one step more: what was written, its line, and the lines to come
 module _ (recording : List ℕ) (place : ℕ) (lost : Bool) (s : Reader) (count n : ℕ) (done total : List ℕ) (a : Answer)
     (is : a ≡ answerHere recording place lost s) (all : done ++ linesFrom (suc n) recording place lost s count ≡ total) where
-  after-line : done ++ (lineOf a count
+  after-line : done ++ (lineText a count
       ++ cond (isLast a) [] (linesFrom n recording (placeBy a place) (lostBy a lost) (readerBy a recording place s) (countAfter a count)))
       ≡ total
   unfolding linesFrom
   after-line = rw is all
 
-  pub last-line : isLast a ≡ true → done ++ lineOf a count ≡ total
-  last-line e = ap (λ (l : List ℕ). done ++ l) (sym (append-nil (lineOf a count))) ∙ rw e at after-line
+  pub last-line : isLast a ≡ true → done ++ lineText a count ≡ total
+  last-line e = ap (λ (l : List ℕ). done ++ l) (sym (append-nil (lineText a count))) ∙ rw e at after-line
 
   pub more-lines : isLast a ≡ false
-      → (done ++ lineOf a count) ++ linesFrom n recording (placeBy a place) (lostBy a lost) (readerBy a recording place s) (countAfter a count)
+      → (done ++ lineText a count) ++ linesFrom n recording (placeBy a place) (lostBy a lost) (readerBy a recording place s) (countAfter a count)
       ≡ total
-  more-lines e = append-assoc done (lineOf a count) _ ∙ rw e at after-line
+  more-lines e = append-assoc done (lineText a count) _ ∙ rw e at after-line
 
 pub count-low : (a : Answer) (n : ℕ) → countAfter a n ≤ n + 1
 count-low (Block report) n = omega arith
@@ -100,7 +92,7 @@ module _ (recording : List ℕ) (at start : ℕ) (was text : List ℕ) (end plac
         ap (λ (n : ℕ). g .done ++ linesFrom n recording place lost s count) one ∙ g .all
 
     module _ (p : Stepped) (e : p ≡ steppedBy (answerHere recording place lost s) recording place lost s) (end₁ : ℕ) (text₁ : List ℕ)
-        (w : Written end (lineOf (p .answer) count) text end₁ text₁) where
+        (w : Written end (lineText (p .answer) count) text end₁ text₁) where
       is : p .answer ≡ answerHere recording place lost s
       is = ap (λ (q : Stepped). q .answer) e
 
@@ -123,9 +115,9 @@ module _ (recording : List ℕ) (at start : ℕ) (was text : List ℕ) (end plac
             inside = subst (λ (q : Stepped). q .place ≤ length recording) (sym e) (place-inside recording place s lost (g .inside));
             low = omega (arith, count-low a count, g .low);
             turns = omega arith;
-            done = g .done ++ lineOf a count;
+            done = g .done ++ lineText a count;
             written = written-then (g .written) w;
-            all = ap (λ (q : Stepped). (g .done ++ lineOf a count) ++ linesFrom (length recording - (turn + 1)) recording (q .place) (q .lost) (q .reader) (countAfter a count)) moved ∙ more;
+            all = ap (λ (q : Stepped). (g .done ++ lineText a count) ++ linesFrom (length recording - (turn + 1)) recording (q .place) (q .lost) (q .reader) (countAfter a count)) moved ∙ more;
           }
 
 -- ---- a recording has more octets than a walk over it has steps, so that a listing is whole: its last line is the octets left
@@ -143,7 +135,7 @@ digit-low : (b : Bool) → digit b ≤ 1
 digit-low true = omega arith
 digit-low false = omega arith
 
--- n steps are enough, wherever the walk stands: each block is 160 octets on, and each place found follows a lost block
+-- n steps are enough, wherever the walk stands: each block is lineOctets octets on, and each place found follows a lost block
 abbrev Enough : List ℕ → ℕ → Type 0
 Enough recording n =
     (place : ℕ) (lost : Bool) (s : Reader) (count : ℕ) → place ≤ length recording
@@ -152,7 +144,7 @@ Enough recording n =
 module _ (recording : List ℕ) (n : ℕ) (shorter : Enough recording n) (place : ℕ) (s : Reader) (count : ℕ) (h : place ≤ length recording) where
   abbrev Rest : Bool → Answer → Type 0
   Rest lost a =
-      Ends (lineOf a count ++ cond (isLast a) [] (linesFrom n recording (placeBy a place) (lostBy a lost) (readerBy a recording place s) (countAfter a count)))
+      Ends (lineText a count ++ cond (isLast a) [] (linesFrom n recording (placeBy a place) (lostBy a lost) (readerBy a recording place s) (countAfter a count)))
 
   found-ends : length recording + 80 ≤ place + 80 * n → (f : Found) → searchOf recording place ≡ f → Rest true (foundAgain f (leftFrom recording place))
   found-ends k (Found.Place p) e =
@@ -160,13 +152,13 @@ module _ (recording : List ℕ) (n : ℕ) (shorter : Enough recording n) (place 
       ends-after (numberLine "found " p) _ (shorter p false s count (omega (arith, f .2)) (omega (arith, f .1)))
   found-ends k (Found.Refused why) e = left-ends (leftFrom recording place)
 
-  block-ends : length recording ≤ place + 80 * n → (b : Bool) → ltb (leftFrom recording place) 160 ≡ b
+  block-ends : length recording ≤ place + 80 * n → (b : Bool) → ltb (leftFrom recording place) lineOctets ≡ b
       → Rest false (cond b (End (leftFrom recording place)) (blockRead s recording place))
   block-ends k true e = left-ends (leftFrom recording place)
   block-ends k false e =
-      let l = ltb-false (leftFrom recording place) 160 e in
+      let l = ltb-false (leftFrom recording place) lineOctets e in
       let p = readAt s recording place in
-      ends-after (blockLine count (p .report)) _ (shorter (place + 160) (isLost (p .report)) (p .state) (count + 1) (omega arith) (omega (arith, digit-low (isLost (p .report)))))
+      ends-after (blockLine count (p .report)) _ (shorter (place + lineOctets) (isLost (p .report)) (p .state) (count + 1) (omega arith) (omega (arith, digit-low (isLost (p .report)))))
 
 enough : (recording : List ℕ) (n : ℕ) → Enough recording n
 unfolding linesFrom
@@ -174,7 +166,7 @@ enough recording zero place lost s count h k = absurd (omega arith)
 enough recording (suc n) place true s count h k =
     found-ends recording n (enough recording n) place s count h (omega arith) (searchOf recording place) refl
 enough recording (suc n) place false s count h k =
-    block-ends recording n (enough recording n) place s count h (omega arith) (ltb (leftFrom recording place) 160) refl
+    block-ends recording n (enough recording n) place s count h (omega arith) (ltb (leftFrom recording place) lineOctets) refl
 
 pub listing-ends : (recording : List ℕ) (p : ℕ) → searchOf recording 0 ≡ Found.Place p → Ends (listingOf recording)
 unfolding listingOf
@@ -182,55 +174,18 @@ listing-ends recording p e =
     let f = found-fits recording 0 p e in
     rw e (ends-after (numberLine "found " p) _ (enough recording (length recording) p false begun 0 (omega (arith, f .2)) (omega (arith, f .2))))
 
--- ---- how long a listing is: 20 octets for a block of 160, and 12 for a place found after a lost one
-standing-length : (q : Standing) → length (standingText q) ≤ 7
-unfolding textOf
-standing-length Waiting = omega arith
-standing-length Read = omega arith
-standing-length Lost = omega arith
-
-verdict-length : (v : Verdict) → length (verdictText v) ≤ 4
-unfolding textOf
-verdict-length None = omega arith
-verdict-length Good = omega arith
-verdict-length Bad = omega arith
-
-code-length : (r : Reading) → length (codeText r) ≤ 2
-unfolding textOf hexOf
-code-length (Mended code) = omega arith
-code-length (Item code) = omega arith
-code-length (MessageWord code) = omega arith
-code-length (ForbiddenItem code) = omega arith
-code-length (NotFollowed code) = omega arith
-code-length Unreadable = omega arith
-code-length NotRead = omega arith
-
-block-length : (count : ℕ) (report : Report) → count < 1000 → length (blockLine count report) ≤ 20
-unfolding blockLine textOf
-block-length count report h =
-    simp length-append
-    (omega (arith, decimal-three count h, standing-length (report .standing), verdict-length (report .verdict), code-length (report .reading)))
-
--- a line of a word and a number, whatever the word
-number-length : (word : String) (k n : ℕ) → length (textOf word) ≤ k → n < 100000 → length (numberLine word n) ≤ k + 6
-unfolding textOf
-number-length word k n w h = simp length-append (omega (arith, w, decimal-five n h))
-
-words-length : (length (textOf "found ") ≤ 6) × (length (textOf "left ") ≤ 5) × (length (textOf "none ") ≤ 5)
-unfolding textOf
-words-length = (omega arith, omega arith, omega arith)
-
--- so the lines of a walk from a place on take a fifth of the octets left, and a little more
+-- ---- how long a listing is: 20 octets for a block of lineOctets, and 12 for a place found after a lost one. So the lines of a walk from a
+-- place on take a fifth of the octets left, and a little more
 abbrev Short : List ℕ → ℕ → Type 0
 Short recording n =
-    (place : ℕ) (lost : Bool) (s : Reader) (count : ℕ) → place ≤ length recording → count * 160 ≤ place
+    (place : ℕ) (lost : Bool) (s : Reader) (count : ℕ) → place ≤ length recording → count * lineOctets ≤ place
     → 5 * length (linesFrom n recording place lost s count) + place ≤ length recording + 60 * digit lost + 60
 
 module _ (recording : List ℕ) (small : length recording ≤ 65536) (n : ℕ) (shorter : Short recording n) (place : ℕ) (s : Reader) (count : ℕ)
-    (h : place ≤ length recording) (low : count * 160 ≤ place) where
+    (h : place ≤ length recording) (low : count * lineOctets ≤ place) where
   abbrev Taken : Bool → Answer → ℕ
   Taken lost a =
-      length (lineOf a count ++ cond (isLast a) [] (linesFrom n recording (placeBy a place) (lostBy a lost) (readerBy a recording place s) (countAfter a count)))
+      length (lineText a count ++ cond (isLast a) [] (linesFrom n recording (placeBy a place) (lostBy a lost) (readerBy a recording place s) (countAfter a count)))
 
   end-short : length (numberLine "left " (leftFrom recording place) ++ []) ≤ 11
   end-short = rw (append-nil (numberLine "left " (leftFrom recording place))) (number-length "left " 5 (leftFrom recording place) (words-length .1) (omega arith))
@@ -244,14 +199,14 @@ module _ (recording : List ℕ) (small : length recording ≤ 65536) (n : ℕ) (
       (omega (arith, number-length "found " 6 p (words-length .0) (omega (arith, f .2)), rest, f .1))
   found-short (Found.Refused why) e = omega (arith, end-short)
 
-  block-short : (b : Bool) → ltb (leftFrom recording place) 160 ≡ b
+  block-short : (b : Bool) → ltb (leftFrom recording place) lineOctets ≡ b
       → 5 * Taken false (cond b (End (leftFrom recording place)) (blockRead s recording place)) + place ≤ length recording + 60 * digit false + 60
   block-short true e = omega (arith, end-short)
   block-short false e =
-      let l = ltb-false (leftFrom recording place) 160 e in
+      let l = ltb-false (leftFrom recording place) lineOctets e in
       let p = readAt s recording place in
-      let rest = shorter (place + 160) (isLost (p .report)) (p .state) (count + 1) (omega arith) (omega arith) in
-      rw (length-append (blockLine count (p .report)) (linesFrom n recording (place + 160) (isLost (p .report)) (p .state) (count + 1)))
+      let rest = shorter (place + lineOctets) (isLost (p .report)) (p .state) (count + 1) (omega arith) (omega arith) in
+      rw (length-append (blockLine count (p .report)) (linesFrom n recording (place + lineOctets) (isLost (p .report)) (p .state) (count + 1)))
       (omega (arith, block-length count (p .report) (omega arith), rest, digit-low (isLost (p .report))))
 
 short : (recording : List ℕ) → length recording ≤ 65536 → (n : ℕ) → Short recording n
@@ -260,7 +215,7 @@ short recording small zero place lost s count h low = omega arith
 short recording small (suc n) place true s count h low =
     found-short recording small n (short recording small n) place s count h low (searchOf recording place) refl
 short recording small (suc n) place false s count h low =
-    block-short recording small n (short recording small n) place s count h low (ltb (leftFrom recording place) 160) refl
+    block-short recording small n (short recording small n) place s count h low (ltb (leftFrom recording place) lineOctets) refl
 
 -- every listing fits into 16,384 octets
 pub listing-fits : (recording : List ℕ) → length (listingOf recording) ≤ 16384

@@ -1,13 +1,13 @@
--- `lines::put_walk` meets its contract: so many turns are made, and what they wrote stands in the text.
+-- `scribe::put_walk` meets its contract: so many turns are made, and what they wrote stands in the text.
 use borrow.Author.Needs.{needs}
 use native.Mathlib.Omega.{arith}
 use mathlib.Core.Path.{sym, _∙_}
 use Prim.Native.Nat.{_-_}
 use lib.ListN.{length}
 use Rattle.text.proofs.OverLaws.{written-length}
-use Rattle.lines.proofs.ListingLaws.{Going, begins, over, ends, goes-on}
-use Rattle.lines.proofs.put_walk.Statement.{statement}
-use Rattle.lines.proofs.put_walk.Tie as tie
+use Rattle.scribe.proofs.ListingLaws.{Going, begins, over, ends, goes-on}
+use Rattle.scribe.proofs.put_walk.Statement.{statement}
+use Rattle.scribe.proofs.put_walk.Tie as tie
 
 abbrev Inv-loop : tie.InvT-loop
 Inv-loop text₀ at recording start a₀ place₀ lost₀ s₀ count₀ turn₀ turn-end text a place lost s count turn =

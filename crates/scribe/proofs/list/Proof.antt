@@ -1,14 +1,14 @@
--- `lines::list` meets its contract: the search says where the walk begins, or why there is none.
+-- `scribe::list` meets its contract: the search says where the walk begins, or why there is none.
 use mathlib.Core.Path.{sym, _∙_}
 use native.Mathlib.Omega.{arith}
 use denote.Ref.{now}
 use Rattle.text.specs.Words.{textOf}
 use Rattle.text.proofs.OverLaws.{written-then, written-bound}
 use Rattle.search.proofs.PlaceLaws.{found-fits, found-small}
-use Rattle.lines.specs.Listing.{listingOf}
+use Rattle.scribe.specs.Listing.{listingOf}
 use borrow.Author.Needs.{needs}
-use Rattle.lines.proofs.list.Statement.{statement}
-use Rattle.lines.proofs.list.Tie as tie
+use Rattle.scribe.proofs.list.Statement.{statement}
+use Rattle.scribe.proofs.list.Tie as tie
 
 put-walk-requires : tie.Need-put-walk-requires
 put-walk-requires c κs =
