@@ -3,7 +3,7 @@ use mathlib.Core.Path.{_≡_, refl, sym, ap, ap₂, _∙_}
 use mathlib.Core.Bool.{Bool, true, false, xor, _&&_, _||_}
 use mathlib.Core.List.{List, [], _∷_, _++_, append-assoc, append-nil}
 use Prim.Native.Nat.{ℕ, zero, suc, _+_, _-_, _*_, _/_, _%_, _^_, _<_, min, max}
-use native.Mathlib.Nat.{suc-inj, suc-ne-zero, pow-suc, mul-assoc, add-assoc, mod-one, mod-eq-of-lt, mul-add-mod-self-right, mul-add-div-right, pow-succ', zero-div, zero-mul, add-mul, zero-add, suc-add, add-comm, add-zero, le-of-suc-le-suc}
+use native.Mathlib.Nat.{suc-inj, suc-ne-zero, pow-suc, mul-assoc, add-assoc, mod-one, mod-eq-of-lt, mul-add-mod-self-right, mul-add-div-right, pow-succ', zero-div, zero-mul, add-mul, zero-add, suc-add, add-comm, add-zero, div-one, le-of-suc-le-suc}
 use native.Mathlib.Omega.{arith}
 use native.Mathlib.Numerals.{one-add}
 use lib.Dec.{eqb}
@@ -11,7 +11,7 @@ use lib.ListN.{length, getD, take, drop, length-append}
 use lib.Seq.{take-at, drop-at}
 use lib.Pow.{pow-pos, pow-add, mod-pow-add, high, split, shr-shr, shl-shr}
 use lib.Bits.{bitXor, bitOr, bitAnd, xor-step, or-step, and-step, xor-shr, or-shr, and-shr, differ}
-use Rattle.bits.specs.Bits.{odd, lowBits, octetBits, bitsOf, digit, number, zeros, xors}
+use Rattle.bits.specs.Bits.{odd, lowBits, octetBits, scPlace, scBit, bitsOf, digit, number, zeros, xors}
 
 -- ---- the sum of two bits
 pub xor-comm : (a b : Bool) → xor a b ≡ xor b a
@@ -180,6 +180,11 @@ pub bitsOf-append : (s t : List ℕ) → bitsOf (s ++ t) ≡ bitsOf s ++ bitsOf 
 unfolding bitsOf
 bitsOf-append [] t = refl
 bitsOf-append (x ∷ s) t = ap (λ (l : List Bool). octetBits x ++ l) (bitsOf-append s t) ∙ sym (append-assoc (octetBits x) (bitsOf s) (bitsOf t))
+
+-- the SC bit is the bit at its place
+pub sc-is : (x : ℕ) → getD (octetBits x) (scPlace - 1) false ≡ scBit x
+unfolding lowBits
+sc-is x = ap odd (div-one x)
 
 pub bitsOf-one : (x : ℕ) → bitsOf (x ∷ []) ≡ octetBits x
 unfolding bitsOf

@@ -19,7 +19,11 @@ lowBits (suc k) n = odd (n / 2 ^ k) ∷ lowBits k n
 abbrev pub octetBits : ℕ → List Bool
 octetBits x = lowBits 8 x
 
--- the service channel (SC) is in bit 8 of an octet, its lowest: that bit, and the octet with that bit 0
+-- the service channel (SC) is bit 8 of an octet
+abbrev pub scPlace : ℕ
+scPlace = 8
+
+-- that bit, the octet's lowest (proofs/BitLaws, sc-is), and the octet with that bit 0
 abbrev pub scBit : ℕ → Bool
 scBit octet = odd octet
 

@@ -3,7 +3,7 @@ use mathlib.Core.Bool.{Bool, false, cond, _&&_, _||_}
 use mathlib.Core.List.{List, [], _∷_}
 use Prim.Native.Nat.{ℕ, zero, suc, _+_}
 use lib.Dec.{leb, eqb}
-use Rattle.bits.specs.Bits.{digit}
+use Rattle.bits.specs.Bits.{scPlace, digit}
 use Rattle.modes.specs.Numbers.{octet}
 use Rattle.modes.specs.Table.{scOctets, octetBitsFrom, audioPlaces, lsdPlaces}
 use Rattle.modes.specs.declared.OctetNumber.{OctetNumber}
@@ -36,9 +36,9 @@ abbrev pub without : Owner → List Owner → List Owner
 without o [] = []
 without o (p ∷ ps) = cond (sameOwner o p) (without o ps) (p ∷ without o ps)
 
--- these places have the one of this octet and this bit among them; the service channel is bit 8
+-- these places have the one of this octet and this bit among them: an SC bit where its octet is in the range, any other by the bit
 unfoldable pub holds : Places → OctetNumber → ℕ → Bool
-holds p o bit = cond (eqb bit 8) (within (p .first .0) (p .last .0) (o .0)) (within (p .from) (p .to) bit)
+holds p o bit = cond (eqb bit scPlace) (within (p .first .0) (p .last .0) (o .0)) (within (p .from) (p .to) bit)
 
 -- what each holds under a mode: the service bits are SC bits 1 to 16
 unfoldable pub heldBy : Mode → Owner → Places
