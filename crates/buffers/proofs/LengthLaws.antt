@@ -8,9 +8,13 @@ use Rattle.bits.proofs.Every.{and-left, and-right}
 use Rattle.buffers.specs.Buffers.{Each, each}
 use Rattle.buffers.specs.Lengths.{lineOctets, streamOctets, fitting}
 
+-- equal parts make equal wholes
+pub same-each : {A : Type 0} {v w d e : A} → v ≡ w → d ≡ e → each v d ≡ each w e
+same-each p q = ap₂ each p q
+
 -- buffers of which no row is given have their lengths
 pub streams-fit : (n : Each ℕ) → not (eqb (n .voice) (streamOctets .voice)) ≡ false → not (eqb (n .lsd) (streamOctets .lsd)) ≡ false → n ≡ streamOctets
-streams-fit n v d = ap₂ each (eqb-true _ _ (not-false _ v)) (eqb-true _ _ (not-false _ d))
+streams-fit n v d = same-each (eqb-true _ _ (not-false _ v)) (eqb-true _ _ (not-false _ d))
 
 -- the lengths out of their test
 pub fit-lengths : (line : ℕ) (n : Each ℕ) → fitting line n ≡ true → (line ≡ lineOctets) × (n ≡ streamOctets)
@@ -21,7 +25,7 @@ fit-lengths line n e =
     let d = eqb (n .lsd) (streamOctets .lsd) in
     let two : (l && v) ≡ true = and-left (l && v) d e in (
       eqb-true line lineOctets (and-left l v two),
-      ap₂ each (eqb-true _ _ (and-right l v two)) (eqb-true _ _ (and-right (l && v) d e)),
+      same-each (eqb-true _ _ (and-right l v two)) (eqb-true _ _ (and-right (l && v) d e)),
     )
 
 -- and into it

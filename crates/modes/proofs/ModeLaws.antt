@@ -56,18 +56,23 @@ lsd-small v t = go (ltb v 15) refl
     go true e = ltb-true v 15 e
     go false e = absurd (false≢true (sym (ap (λ (p : Places). p .listed) (lsd-past v (ltb-false v 15 e))) ∙ t))
 
--- ---- audio that holds no octet bits overlaps nothing, whatever the data value d
-no-bits-apart : (v d : ℕ) → (audioPlaces v) .to ≡ 0 → overlaps (mode v d) ≡ false
-no-bits-apart v d none = overlaps-is (mode v d) ∙ rw (audio-shape v .0, none, audio-shape v .1, audio-shape v .2)
+-- ---- whether streams overlap goes by their two values alone
+pub overlaps-by : (m n : Mode) → m .audio ≡ n .audio → m .lsd ≡ n .lsd → overlaps m ≡ overlaps n
+unfolding overlaps heldBy
+overlaps-by m n a d = rw (a, d)
+
+-- ---- audio that holds no octet bits overlaps nothing, whatever else the mode m has
+no-bits-apart : (m : Mode) (v : ℕ) → (audioPlaces v) .to ≡ 0 → overlaps (withAudio m v) ≡ false
+no-bits-apart m v none = overlaps-is (withAudio m v) ∙ rw (audio-shape v .0, none, audio-shape v .1, audio-shape v .2)
 
 -- 'Refusal numbers', of (000)[0] and (000)[31]: neither overlaps anything
-pub neutral-apart : (d : ℕ) → overlaps (mode 0 d) ≡ false
+pub neutral-apart : (m : Mode) → overlaps (withAudio m 0) ≡ false
 unfolding audioPlaces audioTable beside
-neutral-apart d = no-bits-apart 0 d refl
+neutral-apart m = no-bits-apart m 0 refl
 
-pub audio-off-apart : (d : ℕ) → overlaps (mode audioOff d) ≡ false
+pub audio-off-apart : (m : Mode) → overlaps (withAudio m audioOff) ≡ false
 unfolding audioPlaces audioTable beside
-audio-off-apart d = no-bits-apart audioOff d refl
+audio-off-apart m = no-bits-apart m audioOff refl
 
 -- ---- what clearing room for a stream leaves: nothing changes where nothing overlaps
 pub cleared-voice : (m : Mode) → cleared Voice m ≡ cond (overlaps m) (withLsd m lsdOff) m
@@ -104,6 +109,11 @@ ranged m t =
 pub in-range : (m : Mode) → Ranged m → inRange m ≡ true
 unfolding inRange
 in-range m r = rw (r .spoken, r .named, r .given, r .apart)
+
+-- whether a mode is in range goes by its audio and its data alone
+pub ranged-by : (m n : Mode) → m .audio ≡ n .audio → m .lsd ≡ n .lsd → Ranged m → Ranged n
+ranged-by m n a d r =
+    record { spoken = rw (← a) (r .spoken); named = rw (← a) (r .named); given = rw (← d) (r .given); apart = sym (overlaps-by m n a d) ∙ r .apart }
 
 -- off is in range, which antt computes
 pub off-ranged : Ranged off

@@ -1,13 +1,13 @@
 -- A preset that is written reads back.
-use mathlib.Core.Path.{_≡_}
+use mathlib.Core.Path.{_≡_, refl}
 use mathlib.Core.Bool.{true}
 use Prim.Native.Nat.{_%_}
 use native.Mathlib.Omega.{arith}
 use borrow.Author.Tests.{eq-eqb}
 use Rattle.modes.specs.Modes.{mode}
-use Rattle.modes.proofs.ModeLaws.{in-range}
+use Rattle.modes.proofs.ModeLaws.{in-range, ranged-by}
 use Rattle.codes.specs.Codes.{written, lsdAttribute}
-use Rattle.control.specs.State.{stateInRange, freshWith}
+use Rattle.control.specs.State.{chosenMode, stateInRange, freshWith}
 use Rattle.control.specs.declared.Sender.{Sender}
 use Rattle.control.proofs.RangeLaws.{kept, chosen-small, lsd-in-force-small}
 use Rattle.presets.specs.Presets.{presetOf, audioIn, lsdIn, isPreset, presetRead}
@@ -26,4 +26,4 @@ preset-back s r =
     let ea : audioIn (presetOf a d) ≡ a = omega arith in
     let ed : lsdIn (presetOf a d) ≡ d = omega arith in
     let ez : presetOf a d % 64 ≡ 0 = omega arith in
-    rw (ea, ed, eq-eqb _ 0 ez, in-range (mode a d) (kept s r .ranges))
+    rw (ea, ed, eq-eqb _ 0 ez, in-range (mode a d) (ranged-by (chosenMode s) (mode a d) refl refl (kept s r .ranges)))

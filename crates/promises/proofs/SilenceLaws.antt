@@ -1,5 +1,5 @@
 -- Demand 3, its first part: what the microphone hears during silent blocks leaves no trace in a session.
-use mathlib.Core.Path.{_≡_, refl, sym, ap, ap₂, _∙_}
+use mathlib.Core.Path.{_≡_, refl, sym, ap, _∙_}
 use mathlib.Core.Bool.{Bool, true, false, false≢true, not, _||_}
 use mathlib.Core.List.{List, [], _∷_}
 use Prim.Native.Nat.{ℕ}
@@ -17,7 +17,8 @@ use Rattle.control.specs.declared.Sender.{Sender}
 use Rattle.control.specs.declared.Call.{Call}
 use Rattle.control.specs.declared.Decision.{Decision}
 use Rattle.sender.proofs.OutcomeLaws.{told}
-use Rattle.buffers.specs.Buffers.{Buffers, each, lengths}
+use Rattle.buffers.specs.Buffers.{Buffers, lengths}
+use Rattle.buffers.proofs.LengthLaws.{same-each}
 use Rattle.promises.specs.Session.{Turn, Left, turned, after, run, Allowed}
 use Rattle.promises.specs.Demand3.{silent, AlikeTurn, Alike, Silence}
 
@@ -55,12 +56,12 @@ turn-same s x other fit blocks =
 
 turn-alike : (s : Sender) (x y : Turn) → AlikeTurn s x y → turned s x ≡ turned s y
 turn-alike s x y h =
-    turn-same s x (y .lent) (ap₂ each (h .lengths) (ap length (h .lsd))) (λ word. go word (silent s (x .call)) refl)
+    turn-same s x (y .lent) (same-each (h .lengths) (ap length (h .lsd))) (λ word. go word (silent s (x .call)) refl)
     ∙ ap (turned s) (λ i. record { call = h .call i; lent = y .lent; line = h .line i })
   where
     go : (word : ℕ) (on : Bool) → silent s (x .call) ≡ on → blockFor s (x .call) word (x .lent) ≡ blockFor s (x .call) word (y .lent)
     go word true e = block-silent s (x .call) word (x .lent) (y .lent) (h .lsd) e
-    go word false e = ap (blockFor s (x .call) word) (ap₂ each (h .heard e) (h .lsd))
+    go word false e = ap (blockFor s (x .call) word) (same-each (h .heard e) (h .lsd))
 
 -- ---- whole sessions
 run-alike : (s : Sender) (xs ys : List Turn) → Alike s xs ys → run s xs ≡ run s ys

@@ -9,9 +9,9 @@ use borrow.Author.Tests.{eqb-true, eqb-false, eq-eqb, ne-eqb, leb-false, lt-leb}
 use Rattle.bas.specs.declared.Word.the-variants.{Code}
 use Rattle.modes.specs.Table.{listedAudio}
 use Rattle.modes.specs.Owners.{overlaps}
-use Rattle.modes.specs.Modes.{audioOff, mode}
+use Rattle.modes.specs.Modes.{audioOff, withAudio, withLsd}
 use Rattle.modes.specs.declared.Mode.{Mode}
-use Rattle.modes.proofs.ModeLaws.{audio-small, audio-off-apart, cleared-voice, cleared-lsd, off-ranged}
+use Rattle.modes.proofs.ModeLaws.{audio-small, overlaps-by, audio-off-apart, cleared-voice, cleared-lsd, off-ranged}
 use Rattle.codes.specs.Codes.{attribute, value, written, audioAttribute}
 use Rattle.codes.specs.Carried.{carried, senderCarries, readerCarries, openingOf}
 use Rattle.codes.specs.Commands.{commandOf, offered, followed}
@@ -26,6 +26,7 @@ use Rattle.slots.specs.declared.Due.the-variants.{Plain, AnItem}
 use Rattle.slots.specs.declared.Reading.{Reading}
 use Rattle.slots.specs.declared.Reading.the-variants.{Mended}
 use Rattle.slots.proofs.SlotLaws.{item-no-command}
+use Rattle.control.specs.State.{chosenMode}
 use Rattle.control.specs.Plans.{dueNumber, planBy}
 use Rattle.control.specs.Refusals.{isAudio, isLsd, clashes, goesPlain, goesAsItem}
 use Rattle.control.specs.declared.Sender.{Sender}
@@ -117,8 +118,8 @@ due-follows w k Message e =
 -- ---- a command that the sender takes overlaps nothing at the reader, so that it is followed as it was offered
 module _ (m : Mode) where
   follow-offer : (command : Command)
-      → ((v : ℕ) → command ≡ SetAudio v → overlaps (mode v (m .lsd)) ≡ false)
-      → ((v : ℕ) → command ≡ SetLsd v → overlaps (mode (m .audio) v) ≡ false)
+      → ((v : ℕ) → command ≡ SetAudio v → overlaps (withAudio m v) ≡ false)
+      → ((v : ℕ) → command ≡ SetLsd v → overlaps (withLsd m v) ≡ false)
       → followed command m ≡ offered command m
   unfolding followed offered
   follow-offer Neutral a d = refl
@@ -127,46 +128,46 @@ module _ (m : Mode) where
   follow-offer NoEffect a d = refl
 
 module _ (s : Sender) (k : Kept s) where
-  audio-apart : (w c v : ℕ) → commandOf w ≡ SetAudio c → overlaps (mode c (s .mode .lsd)) ≡ false → commandOf w ≡ SetAudio v
-      → overlaps (mode v (s .mode .lsd)) ≡ false
+  audio-apart : (w c v : ℕ) → commandOf w ≡ SetAudio c → overlaps (withAudio (s .mode) c) ≡ false → commandOf w ≡ SetAudio v
+      → overlaps (withAudio (s .mode) v) ≡ false
   audio-apart w c v is apart e =
       let both : SetAudio v ≡ SetAudio c = sym e ∙ is in
       let same : v ≡ c = cc in
-      ap (λ (n : ℕ). overlaps (mode n (s .mode .lsd))) same ∙ apart
+      ap (λ (n : ℕ). overlaps (withAudio (s .mode) n)) same ∙ apart
 
-  no-lsd : (w c v : ℕ) → commandOf w ≡ SetAudio c → commandOf w ≡ SetLsd v → overlaps (mode (s .mode .audio) v) ≡ false
+  no-lsd : (w c v : ℕ) → commandOf w ≡ SetAudio c → commandOf w ≡ SetLsd v → overlaps (withLsd (s .mode) v) ≡ false
   no-lsd w c v is e =
       let both : SetLsd v ≡ SetAudio c = sym e ∙ is in
       let z : _≡_ {A = ℕ} 0 1 = cc in
       absurd (omega arith)
 
   -- in force is off, which overlaps nothing, or the chosen audio
-  pub force-apart : (v : ℕ) → overlaps (mode (s .chosen) v) ≡ false → overlaps (mode (s .mode .audio) v) ≡ false
+  pub force-apart : (v : ℕ) → overlaps (withLsd (chosenMode s) v) ≡ false → overlaps (withLsd (s .mode) v) ≡ false
   force-apart v apart = go (eqb (s .mode .audio) audioOff) refl (k .force)
     where
       go : (b : Bool) → eqb (s .mode .audio) audioOff ≡ b → (b || eqb (s .mode .audio) (s .chosen)) ≡ true
-          → overlaps (mode (s .mode .audio) v) ≡ false
-      go true e f = ap (λ (n : ℕ). overlaps (mode n v)) (eqb-true (s .mode .audio) audioOff e) ∙ audio-off-apart v
-      go false e f = ap (λ (n : ℕ). overlaps (mode n v)) (eqb-true (s .mode .audio) (s .chosen) f) ∙ apart
+          → overlaps (withLsd (s .mode) v) ≡ false
+      go true e f = overlaps-by _ (withAudio (withLsd (s .mode) v) audioOff) (eqb-true (s .mode .audio) audioOff e) refl ∙ audio-off-apart (withLsd (s .mode) v)
+      go false e f = overlaps-by _ (withLsd (chosenMode s) v) (eqb-true (s .mode .audio) (s .chosen) f) refl ∙ apart
 
   module _ (code : ℕ) (none : clashes s code ≡ false) where
     abbrev spoken : Bool
-    spoken = isAudio code && overlaps (mode (value code) (s .mode .lsd))
+    spoken = isAudio code && overlaps (withAudio (s .mode) (value code))
 
     abbrev given : Bool
-    given = isLsd code && overlaps (mode (s .chosen) (value code))
+    given = isLsd code && overlaps (withLsd (chosenMode s) (value code))
 
-    offered-audio : (v : ℕ) → commandOf code ≡ SetAudio v → overlaps (mode v (s .mode .lsd)) ≡ false
+    offered-audio : (v : ℕ) → commandOf code ≡ SetAudio v → overlaps (withAudio (s .mode) v) ≡ false
     unfolding clashes
     offered-audio v e =
         let a = audio-code code v e in
-        ap (λ (n : ℕ). overlaps (mode n (s .mode .lsd))) (a .is) ∙ rw (a .kind) at (or-left-false spoken given none)
+        ap (λ (n : ℕ). overlaps (withAudio (s .mode) n)) (a .is) ∙ rw (a .kind) at (or-left-false spoken given none)
 
-    offered-lsd : (v : ℕ) → commandOf code ≡ SetLsd v → overlaps (mode (s .mode .audio) v) ≡ false
+    offered-lsd : (v : ℕ) → commandOf code ≡ SetLsd v → overlaps (withLsd (s .mode) v) ≡ false
     unfolding clashes
     offered-lsd v e =
         let d = lsd-code code v e in
-        force-apart v (ap (λ (n : ℕ). overlaps (mode (s .chosen) n)) (d .is) ∙ rw (d .kind) at (or-right-false spoken given none))
+        force-apart v (ap (λ (n : ℕ). overlaps (withLsd (chosenMode s) n)) (d .is) ∙ rw (d .kind) at (or-right-false spoken given none))
 
 -- ---- the reading of a word in the slot that is due
 obeyed-mended : (w : ℕ) (m : Mode) → obeyed (Mended w) m ≡ followed (commandOf w) m
@@ -185,7 +186,7 @@ module _ (s : Sender) (code : ℕ) where
   followed-as-planned MuteOff k e =
       let w = written audioAttribute audioOff in
       let is = audio-command audioOff (off-ranged .spoken) (off-ranged .named) in
-      follow-offer (s .mode) _ (λ v e. audio-apart s (k .kept) w audioOff v is (audio-off-apart (s .mode .lsd)) e) (λ v e. no-lsd s (k .kept) w audioOff v is e)
+      follow-offer (s .mode) _ (λ v e. audio-apart s (k .kept) w audioOff v is (audio-off-apart (s .mode)) e) (λ v e. no-lsd s (k .kept) w audioOff v is e)
   followed-as-planned Release k e =
       let w = written audioAttribute (s .chosen) in
       let is = audio-command (s .chosen) (k .kept .ranges .spoken) (k .kept .ranges .named) in

@@ -1,5 +1,5 @@
 -- A mode in range stays so, whatever is read.
-use mathlib.Core.Path.{_≡_, refl}
+use mathlib.Core.Path.{_≡_, refl, _∙_}
 use mathlib.Core.Bool.{Bool, true, false, not, cond}
 use Prim.Native.Nat.{ℕ, _<_}
 use borrow.Author.Tests.{not-true}
@@ -8,7 +8,7 @@ use Rattle.modes.specs.Table.{audioTable, lsdTable, beside, audioPlaces, lsdPla
 use Rattle.modes.specs.Owners.{holds, heldBy, some, clash, overlaps}
 use Rattle.modes.specs.Modes.{audioOff, lsdOff, off, withAudio, withLsd, inRange}
 use Rattle.modes.specs.declared.Mode.{Mode}
-use Rattle.modes.proofs.ModeLaws.{Ranged, ranged, in-range, audio-small, audio-off-apart, cleared-voice, cleared-lsd, off-ranged}
+use Rattle.modes.proofs.ModeLaws.{Ranged, ranged, in-range, audio-small, overlaps-by, audio-off-apart, cleared-voice, cleared-lsd, off-ranged}
 use Rattle.codes.specs.Commands.{commandOf, followed}
 use Rattle.codes.specs.declared.Command.{Command}
 use Rattle.codes.specs.declared.Command.the-variants.{Neutral, SetAudio, SetLsd, NoEffect}
@@ -17,10 +17,13 @@ use Rattle.slots.specs.Readings.{obeyed}
 use Rattle.slots.specs.declared.Reading.{Reading}
 use Rattle.slots.specs.declared.Reading.the-variants.{Mended, Item, MessageWord, ForbiddenItem, NotFollowed, Unreadable, NotRead}
 
--- where all else is off, audio overlaps nothing: antt computes it at each value
-lsd-off-apart : (v : ℕ) → v < 32 → overlaps (withAudio off v) ≡ false
+-- where data is off, audio overlaps nothing: antt computes it at each value
+off-apart : (v : ℕ) → v < 32 → overlaps (withAudio off v) ≡ false
 unfolding audioPlaces audioTable lsdPlaces lsdTable beside overlaps clash some holds heldBy
-lsd-off-apart v small = not-true _ (below 32 (λ (k : ℕ). not (overlaps (withAudio off k))) refl v small)
+off-apart v small = not-true _ (below 32 (λ (k : ℕ). not (overlaps (withAudio off k))) refl v small)
+
+lsd-off-apart : (m : Mode) → m .audio < 32 → overlaps (withLsd m lsdOff) ≡ false
+lsd-off-apart m small = overlaps-by (withLsd m lsdOff) (withAudio off (m .audio)) refl refl ∙ off-apart (m .audio) small
 
 module _ (code : ℕ) (m : Mode) (r : Ranged m) where
   by-command : (command : Command) → commandOf code ≡ command → Ranged (followed command m)
@@ -31,7 +34,7 @@ module _ (code : ℕ) (m : Mode) (r : Ranged m) where
       go : (b : Bool) → overlaps (withAudio m v) ≡ b → Ranged (cond b (withLsd (withAudio m v) lsdOff) (withAudio m v))
       go true o =
           let a = audio-code code v e in
-          record { spoken = a .listed; named = a .named; given = off-ranged .given; apart = lsd-off-apart v (audio-small v (a .listed)) }
+          record { spoken = a .listed; named = a .named; given = off-ranged .given; apart = lsd-off-apart (withAudio m v) (audio-small v (a .listed)) }
       go false o =
           let a = audio-code code v e in
           record { spoken = a .listed; named = a .named; given = r .given; apart = o }
@@ -40,7 +43,7 @@ module _ (code : ℕ) (m : Mode) (r : Ranged m) where
       go : (b : Bool) → overlaps (withLsd m v) ≡ b → Ranged (cond b (withAudio (withLsd m v) audioOff) (withLsd m v))
       go true o =
           let d = lsd-code code v e in
-          record { spoken = off-ranged .spoken; named = off-ranged .named; given = d .listed; apart = audio-off-apart v }
+          record { spoken = off-ranged .spoken; named = off-ranged .named; given = d .listed; apart = audio-off-apart (withLsd m v) }
       go false o =
           let d = lsd-code code v e in
           record { spoken = r .spoken; named = r .named; given = d .listed; apart = o }

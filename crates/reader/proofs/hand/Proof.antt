@@ -1,5 +1,5 @@
 -- `reader::hand` meets its contract: the block is read, or its buffers are cleared.
-use mathlib.Core.Path.{_≡_, ap, ap₂, _∙_}
+use mathlib.Core.Path.{_≡_, ap, _∙_}
 use mathlib.Core.Bool.{true}
 use mathlib.Core.List.{List}
 use Prim.Native.Nat.{ℕ}
@@ -7,7 +7,7 @@ use lib.ListN.{length, replicate}
 use Rattle.modes.specs.declared.Mode.{Mode}
 use Rattle.buffers.specs.Buffers.{Each, Buffers, each, lengths}
 use Rattle.buffers.specs.Lengths.{zeroed, fitting}
-use Rattle.buffers.proofs.LengthLaws.{fit-lengths}
+use Rattle.buffers.proofs.LengthLaws.{same-each, fit-lengths}
 use Rattle.sorter.specs.Sorting.{streamsOf, buffersAfter}
 use borrow.Author.Needs.{needs}
 use Rattle.reader.proofs.hand.Statement.{statement}
@@ -15,7 +15,7 @@ use Rattle.reader.proofs.hand.Tie as tie
 
 -- buffers that fit and were cleared
 zeros : (line : ℕ) (n : Each ℕ) (v d : List ℕ) → fitting line n ≡ true → v ≡ replicate (n .voice) 0 → d ≡ replicate (n .lsd) 0 → each v d ≡ zeroed
-zeros line n v d f e g = ap₂ each e g ∙ ap (λ (m : Each ℕ). each (replicate (m .voice) 0) (replicate (m .lsd) 0)) (fit-lengths line n f .1)
+zeros line n v d f e g = same-each e g ∙ ap (λ (m : Each ℕ). each (replicate (m .voice) 0) (replicate (m .lsd) 0)) (fit-lengths line n f .1)
 
 -- where the lengths fit, the sorter has handed out
 sorted : (m : Mode) (line : List ℕ) (b after : Buffers) → fitting (length line) (lengths b) ≡ true → after ≡ buffersAfter m line b → after ≡ streamsOf m line

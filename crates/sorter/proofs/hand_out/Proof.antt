@@ -2,7 +2,7 @@
 use borrow.Author.Needs.{needs}
 use borrow.Author.Tests.{not-true, not-false}
 use native.Mathlib.Omega.{arith}
-use mathlib.Core.Path.{_≡_, ap, ap₂, sym, subst, _∙_}
+use mathlib.Core.Path.{_≡_, ap, sym, subst, _∙_}
 use mathlib.Core.Bool.{true, false}
 use mathlib.Core.List.{List, _++_}
 use Prim.Native.Nat.{ℕ}
@@ -19,7 +19,7 @@ use Rattle.buffers.specs.Lengths.{streamOctets, fitting}
 use Rattle.places.specs.Layout.{Apart, layoutOf, rowsBy}
 use Rattle.places.specs.declared.Layout.{Layout}
 use Rattle.places.proofs.LayoutLaws.{rows-are, apart-of}
-use Rattle.buffers.proofs.LengthLaws.{fit-lengths}
+use Rattle.buffers.proofs.LengthLaws.{same-each, fit-lengths}
 use Rattle.sorter.specs.Sorting.{sortedOf, streamsOf}
 use Rattle.sorter.proofs.HandLaws.{told}
 use Rattle.sorter.proofs.hand_out.Statement.{statement}
@@ -65,7 +65,7 @@ returns-2 c =
     let fit = fit-lengths _ _ yes in
     let said = told (a .mode) (now (a .line)) (each (now (a .voice)) (now (a .lsd))) true yes in (
       said .0,
-      ap₂ each
+      same-each
           (by-owner (a .mode) (l .result) Voice _ (streamOctets .voice) (now (a .line)) _ (l .ensures) (ap (λ (n : Each ℕ). n .voice) (fit .1)) (c .before .before .before .before .before .before .sort-voice .ensures))
           (by-owner (a .mode) (l .result) Lsd _ (streamOctets .lsd) (now (a .line)) _ (l .ensures) (ap (λ (n : Each ℕ). n .lsd) (fit .1)) (c .before .before .sort-lsd .ensures))
           ∙ said .1,
