@@ -1,19 +1,23 @@
-# `make demo` shows what the library does, `make test` runs every check, and `make soak` compares the library with the model in Rust for
-# longer: CASES (linked into one process), SERVED (called in C, through a server) and SEED can be given. `make bench` prints the library's
-# speed beside that of other implementations. BEFORE, an earlier libcard.a or a revision, adds the ratio of its time now to its time then;
-# the archive of a revision is built and proved first, which takes minutes.
-.PHONY: demo test soak bench
+# A target's line below has, after '##', what `make help` says of it; help comes first, so bare `make` says it too.
+# `make soak` takes CASES (linked into one process), SERVED (called in C, through a server) and SEED. `make bench` takes BEFORE, an earlier
+# libcard.a or a revision: it adds the ratio of the time now to the time then; the archive of a revision is built and proved first, which takes
+# minutes.
+.PHONY: help demo test soak bench clean
 
-demo:
+help: ## says what there is
+	@awk -F ':.*## ' '/^[a-z]+:.*## / { printf "make %-10s %s\n", $$1, $$2 }' Makefile
+
+demo: ## proves what it shows, then shows it: a lesson with mute pressed on an escape, figures, bit layouts
 	@mkdir -p target
 	@rt check figures layouts demo >target/demo.log 2>&1 || { cat target/demo.log; exit 1; }
 	@sh tools/run figures
 	@sh tools/run layouts
 	@sh tools/run demo
 
-test:
+test: ## runs every check; the last line is 'N passed, M failed'
 	@sh tools/test
 
+soak: ## compares the library with the model in Rust for longer (CASES, SERVED, SEED)
 soak: CASES ?= 1000000
 soak: SERVED ?= 100000
 soak: compare = cargo test --offline --release --manifest-path rust/Cargo.toml -p differential
@@ -23,8 +27,12 @@ soak:
 	@CASES=$(CASES) $(compare) --test linked -- --nocapture
 	@CASES=$(SERVED) $(compare) --test server -- --nocapture
 
+bench: ## prints the library's speed beside that of other implementations (BEFORE: an earlier archive or revision)
 bench: of_bench = --quiet --offline --release --manifest-path rust/Cargo.toml -p bench --features contestants
 bench:
 	@sh tools/native
 	@before=; [ -z "$(BEFORE)" ] || before=$$(sh bench/before "$(BEFORE)") || exit 1; export DELAMPUK_BEFORE=$$before; \
 		cargo test $(of_bench) --test all && cargo run $(of_bench)
+
+clean: ## removes what was made: target/ and rust/target/
+	@rm -rf target rust/target
