@@ -9,7 +9,7 @@ help: ## says what there is
 
 demo: ## proves what it shows, then shows it: a lesson with mute pressed on an escape, figures, bit layouts
 	@mkdir -p target
-	@rt check figures layouts demo >target/demo.log 2>&1 || { cat target/demo.log; exit 1; }
+	@sh tools/progress check demo figures layouts 3>&2 >target/demo.log 2>&1 || { cat target/demo.log; exit 1; }
 	@sh tools/run figures
 	@sh tools/run layouts
 	@sh tools/run demo
