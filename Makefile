@@ -10,9 +10,10 @@ help: ## says what there is
 demo: ## proves what it shows, then shows it: a lesson with mute pressed on an escape, figures, bit layouts
 	@mkdir -p target
 	@sh tools/progress check demo figures layouts 3>&2 >target/demo.log 2>&1 || { cat target/demo.log; exit 1; }
+	@sh tools/run demo
+	@echo
 	@sh tools/run figures
 	@sh tools/run layouts
-	@sh tools/run demo
 
 test: ## runs every check; the last line is 'N passed, M failed'
 	@sh tools/test

@@ -1,15 +1,15 @@
--- `demo::listed` is safe: no part ends past its buffer.
+-- `demo::tell_listing` is safe: no part ends past its buffer.
 use native.Mathlib.Omega.{arith}
 use lib.ListN.{length-take}
 use borrow.Author.Needs.{needs}
-use Rattle.demo.proofs.listed.Statement.{statement}
-use Rattle.demo.proofs.listed.Tie as tie
+use Rattle.demo.proofs.tell_listing.Statement.{statement}
+use Rattle.demo.proofs.tell_listing.Tie as tie
 
 slice-aggregate-text : tie.Need-slice-aggregate-text
 slice-aggregate-text c = simp length-take (omega arith)
 
-pub listed-spec : {M : Type 1} → statement M
-listed-spec =
+pub tell-listing-spec : {M : Type 1} → statement M
+tell-listing-spec =
     tie.close
     (tie.spec
     (λ c. search needs)
