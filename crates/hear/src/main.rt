@@ -1,7 +1,6 @@
 // Takes the voice out of a recording: standard input is searched for alignment and walked over, and the voice of each block that is
 // read goes to standard output. The listing of the recording goes to standard error.
 use libc::STDERR_FILENO;
-use libc::STDIN_FILENO;
 use libc::STDOUT_FILENO;
 use modes::Mode;
 use modes::Owner;
@@ -97,7 +96,7 @@ fn heard(recording: &[u8]) {
     let found = search::search(recording, 0);
     if let Found::Place(start) = found {
         if !walked(recording, start) {
-            tell(b"hear: the voice cannot be written\n");
+            tell(b"hear: standard output cannot be written\n");
         }
     }
 }
@@ -112,6 +111,11 @@ fn main() {
         tell(b"and lists its blocks on standard error.\n");
         return;
     }
-    let n = io::read_full(STDIN_FILENO, &mut recording);
+    let got = intake::fill(&mut recording);
+    if got.failed {
+        tell(b"hear: standard input cannot be read\n");
+        return;
+    }
+    let n = got.octets;
     heard(&recording[..n]);
 }

@@ -5,7 +5,6 @@ use control::Answer;
 use control::Call;
 use control::Sender;
 use libc::STDERR_FILENO;
-use libc::STDIN_FILENO;
 use libc::STDOUT_FILENO;
 use modes::Mode;
 use modes::Owner;
@@ -28,11 +27,24 @@ struct Word {
     times: u16,
 }
 
-// How far the sending is: the state that the next call finds, its number, and whether every block was written so far.
+// Whether the sending goes on, or has ended since voice cannot be read or a block cannot be written.
+enum Course {
+    Open,
+    Unread,
+    Unwritten,
+}
+
+// How far the sending is: the state that the next call finds, its number, and its course.
 struct Session {
     state: Sender,
     number: usize,
-    open: bool,
+    course: Course,
+}
+
+// The voice of a block, and whether it could be read.
+struct Voice {
+    octets: [u8; buffers::VOICE],
+    failed: bool,
 }
 
 fn tell(s: &[u8]) {
@@ -53,7 +65,7 @@ fn tell_wrong(i: usize) {
     let mut octets = [0u8; 64];
     let n = os::arg(i, &mut octets);
     let whole = os::errno() == 0;
-    tell(b"send: \"");
+    tell(b"speak: \"");
     if whole {
         tell(&octets[..n]);
     } else {
@@ -212,16 +224,20 @@ fn all_calls(count: usize) -> bool {
 }
 
 // The voice of the next block: 20 octets for each bit that the audio in force holds, from standard input. What is missing is zero.
-fn voice_under(mode: Mode, mute: bool) -> [u8; buffers::VOICE] {
+fn voice_under(mode: Mode, mute: bool) -> Voice {
     let mut voice = [0u8; buffers::VOICE];
     let octets = (modes::bits_per_frame(mode, Owner::Voice) / 4) as usize;
-    if mute {
-        return voice;
+    let mut failed = false;
+    if !mute {
+        if octets <= buffers::VOICE {
+            let got = intake::fill(&mut voice[..octets]);
+            failed = got.failed;
+        }
     }
-    if octets <= buffers::VOICE {
-        io::read_full(STDIN_FILENO, &mut voice[..octets]);
+    Voice {
+        octets: voice,
+        failed: failed,
     }
-    voice
 }
 
 fn put_block(line: &mut [u8], at: usize, block: u8) -> usize {
@@ -265,30 +281,40 @@ fn tell_call(session: Session, code: u8, answer: Answer, went: u8) {
     }
 }
 
-// The session after a call, whose block was written or not.
-fn followed(session: Session, state: Sender, open: bool) -> Session {
+// The session after a call.
+fn followed(session: Session, state: Sender, course: Course) -> Session {
     Session {
         state: state,
         number: std::num::wrapping_add_usize(session.number, 1),
-        open: open,
+        course: course,
     }
 }
 
-// A call that is accepted: its block is written, with the voice in it.
-fn accepted(session: Session, call: Call) -> Session {
+// A call that is accepted, with its voice: its block is written.
+fn framed(session: Session, call: Call, voice: &[u8; buffers::VOICE]) -> Session {
     let mut line = [0u8; buffers::LINE];
     let lsd = [0u8; buffers::LSD];
     let state = session.state;
-    let mode = state.mode;
-    let voice = voice_under(mode, call.mute);
-    let outcome = sender::send(state, call, &voice, &lsd, &mut line);
+    let outcome = sender::send(state, call, voice, &lsd, &mut line);
     let answer = outcome.answer;
     let next = outcome.state;
-    let open = io::write_all(STDOUT_FILENO, &line);
-    if open {
+    if io::write_all(STDOUT_FILENO, &line) {
         tell_call(session, call.code, answer, next.mode.audio);
+        return followed(session, next, Course::Open);
     }
-    followed(session, next, open)
+    followed(session, next, Course::Unwritten)
+}
+
+// A call that is accepted. Where its voice cannot be read, nothing is written.
+fn accepted(session: Session, call: Call) -> Session {
+    let state = session.state;
+    let mode = state.mode;
+    let voice = voice_under(mode, call.mute);
+    if voice.failed {
+        return followed(session, state, Course::Unread);
+    }
+    let octets = voice.octets;
+    framed(session, call, &octets)
 }
 
 // One call. It is tried with silence first, since a refused one takes no voice.
@@ -304,48 +330,67 @@ fn made(session: Session, call: Call) -> Session {
         Answer::Held => accepted(session, call),
         Answer::Refused(_) => {
             tell_call(session, call.code, answer, 0);
-            followed(session, state, true)
+            followed(session, state, Course::Open)
         }
     }
 }
 
-// A call, repeated as its word says, as long as its blocks are written.
+// One call, where the sending goes on.
+fn continued(session: Session, call: Call) -> Session {
+    let course = session.course;
+    match course {
+        Course::Open => made(session, call),
+        Course::Unread => session,
+        Course::Unwritten => session,
+    }
+}
+
+// A call, repeated as its word says.
 fn repeated(found: Session, call: Call, times: u16) -> Session {
     let mut session = found;
     for i in 0..times {
-        if session.open {
-            session = made(session, call);
-        }
+        session = continued(session, call);
     }
     session
 }
 
-// Makes every call of the arguments. Whether each block was written.
-fn all_sent(count: usize) -> bool {
+// Makes every call of the arguments. The course that it took.
+fn all_sent(count: usize) -> Course {
     let fresh = control::fresh();
     let mut session = Session {
         state: fresh,
         number: 1,
-        open: true,
+        course: Course::Open,
     };
     for i in 1..count {
         let word = word_at(i);
         let call = word.call;
         session = repeated(session, call, word.times);
     }
-    session.open
+    session.course
+}
+
+fn tell_course(course: Course) {
+    match course {
+        Course::Open => {}
+        Course::Unread => tell(b"speak: standard input cannot be read\n"),
+        Course::Unwritten => tell(b"speak: standard output cannot be written\n"),
+    }
 }
 
 fn main() {
     let count = os::arg_count();
     if count < 2 {
-        tell(b"send: no call is given\n");
+        tell(b"speak: no call is given\n");
         tell_notation();
         return;
     }
     if all_calls(count) {
-        if !all_sent(count) {
-            tell(b"send: the recording cannot be written\n");
+        // the first blocks may have no voice: a standard input that cannot be read is told before one of them is written
+        if !intake::is_open() {
+            tell_course(Course::Unread);
+            return;
         }
+        tell_course(all_sent(count));
     }
 }

@@ -1,4 +1,4 @@
--- `send::all_calls` is safe and ends: its counter goes up to the number of arguments.
+-- `speak::all_calls` is safe and ends: its counter goes up to the number of arguments.
 use Prim.Native.Nat.{_-_, _≤_}
 use native.Mathlib.Omega.{arith}
 use Rattle.speak.proofs.all_calls.Statement.{statement}

@@ -1,4 +1,4 @@
--- `send::read_word` is safe and ends: its counter goes up to the length of the word.
+-- `speak::read_word` is safe and ends: its counter goes up to the length of the word.
 use Prim.Native.Nat.{_-_, _≤_}
 use native.Mathlib.Omega.{arith}
 use Rattle.speak.proofs.read_word.Statement.{statement}

@@ -1,4 +1,4 @@
--- `send::repeated` is safe and ends: its counter goes up to a bound.
+-- `speak::repeated` is safe and ends: its counter goes up to a bound.
 use Prim.Native.Nat.{_-_, _≤_}
 use native.Mathlib.Omega.{arith}
 use Rattle.speak.proofs.repeated.Statement.{statement}
@@ -13,8 +13,8 @@ abbrev μ-loop : tie.MeasureT-loop
 loop-holds : tie.Need-loop-holds Inv-loop μ-loop
 loop-holds c = omega arith
 
-made-requires : tie.Need-made-requires Inv-loop μ-loop
-made-requires c κs = tt
+continued-requires : tie.Need-continued-requires Inv-loop μ-loop
+continued-requires c κs = tt
 
 add-i : tie.Need-add-i Inv-loop μ-loop
 add-i c = omega arith
@@ -31,4 +31,4 @@ returns c = tt
 pub repeated-spec : {M : Type 1} → statement M
 repeated-spec =
     tie.close
-    (tie.spec Inv-loop μ-loop loop-holds made-requires add-i loop-less loop-again returns)
+    (tie.spec Inv-loop μ-loop loop-holds continued-requires add-i loop-less loop-again returns)

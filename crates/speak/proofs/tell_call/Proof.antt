@@ -1,4 +1,4 @@
--- `send::tell_call` is safe: what it writes ends within the line.
+-- `speak::tell_call` is safe: what it writes ends within the line.
 use native.Mathlib.Omega.{arith}
 use lib.ListN.{length-take}
 use borrow.Author.Needs.{needs}

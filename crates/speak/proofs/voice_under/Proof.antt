@@ -1,12 +1,12 @@
--- `send::voice_under` is safe: no more octets are asked for than the buffer has.
+-- `speak::voice_under` is safe: no more octets are asked for than the buffer has.
 use native.Mathlib.Omega.{arith}
 use lib.ListN.{length-take}
 use borrow.Author.Needs.{needs}
 use Rattle.speak.proofs.voice_under.Statement.{statement}
 use Rattle.speak.proofs.voice_under.Tie as tie
 
-slice-aggregate-read-full : tie.Need-slice-aggregate-read-full
-slice-aggregate-read-full c = simp length-take (omega arith)
+slice-aggregate-fill : tie.Need-slice-aggregate-fill
+slice-aggregate-fill c = simp length-take (omega arith)
 
 pub voice-under-spec : {M : Type 1} → statement M
 voice-under-spec =
@@ -15,8 +15,8 @@ voice-under-spec =
     (λ c κs. search needs)
     (λ c. search needs)
     (λ c. search needs)
-    (λ c. search needs)
-    slice-aggregate-read-full
+    slice-aggregate-fill
     (λ c κs. search needs)
+    (λ c. search needs)
     (λ c. search needs)
     (λ c. search needs))
