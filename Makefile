@@ -2,7 +2,11 @@
 # `make soak` takes CASES (linked into one process), SERVED (called in C, through a server) and SEED. `make bench` takes BEFORE, an earlier
 # libcard.a or a revision: it adds the ratio of the time now to the time then; the archive of a revision is built and proved first, which takes
 # minutes.
-.PHONY: help demo test soak bench clean
+.PHONY: help demo test install uninstall soak bench clean
+
+# where `make install` puts things, and the archive that it takes, which tools/native writes
+PREFIX ?= /usr/local
+archive = target/native/libcard.a
 
 help: ## says what there is
 	@awk -F ':.*## ' '/^[a-z]+:.*## / { printf "make %-10s %s\n", $$1, $$2 }' Makefile
@@ -17,6 +21,13 @@ demo: ## proves what it shows, then shows it: a lesson with mute pressed on an e
 
 test: ## runs every check; the last line is 'N passed, M failed'
 	@sh tools/test
+
+install: ## installs header, archive, pkg-config file and, on x86-64, programs (PREFIX, by default /usr/local; DESTDIR)
+	@sh tools/native
+	@PREFIX="$(PREFIX)" DESTDIR="$(DESTDIR)" sh tools/install $(archive)
+
+uninstall: ## removes what make install laid down (PREFIX, DESTDIR)
+	@PREFIX="$(PREFIX)" DESTDIR="$(DESTDIR)" sh tools/install remove
 
 soak: ## compares the library with the model in Rust for longer (CASES, SERVED, SEED)
 soak: CASES ?= 1000000
