@@ -1,12 +1,12 @@
 # A target's line below has, after '##', what `make help` says of it; help comes first, so bare `make` says it too.
-# `make soak` takes CASES (linked into one process), SERVED (called in C, through a server) and SEED. `make bench` takes BEFORE, an earlier
-# libcard.a or a revision: it adds the ratio of the time now to the time then; the archive of a revision is built and proved first, which takes
+# `make soak` takes CASES (linked into one process), SERVED (called in C, through a server) and SEED. `make bench` takes BEFORE, an
+# earlier archive or a revision: it adds the ratio of the time now to the time then; the archive of a revision is built and proved first, which takes
 # minutes.
 .PHONY: help demo test install uninstall soak bench clean
 
 # where `make install` puts things, and the archive that it takes, which tools/native writes
 PREFIX ?= /usr/local
-archive = target/native/libcard.a
+archive = target/native/libdelampuk.a
 
 help: ## says what there is
 	@awk -F ':.*## ' '/^[a-z]+:.*## / { printf "make %-10s %s\n", $$1, $$2 }' Makefile
@@ -22,7 +22,7 @@ demo: ## proves what it shows, then shows it: a lesson with mute pressed on an e
 test: ## runs every check; the last line is 'N passed, M failed'
 	@sh tools/test
 
-install: ## installs header, archive, pkg-config file and, on x86-64, programs (PREFIX, by default /usr/local; DESTDIR)
+install: ## installs header, archive, pkg-config file, the command delampuk and, on x86-64, programs (PREFIX, by default /usr/local; DESTDIR)
 	@sh tools/native
 	@PREFIX="$(PREFIX)" DESTDIR="$(DESTDIR)" sh tools/install $(archive)
 

@@ -132,7 +132,7 @@ FORCED void take_voice(const uint64_t *block, uint8_t *voice, unsigned w) {
         raw[i] = first_highest(join(block[i] >> (8 - w) & fields(w), w));
     store_stream(voice, raw, EIGHTS - 1, w);
     memcpy(voice + (EIGHTS - 1) * w, raw + EIGHTS - 1, w);
-    memset(voice + EIGHTS * w, 0, DELAMPUK_VOICE - EIGHTS * w);
+    memset(voice + EIGHTS * w, 0, DELAMPUK_OCTETS_VOICE - EIGHTS * w);
 }
 
 static void sort_voice(const uint64_t *block, uint8_t *voice, unsigned w) {
@@ -143,7 +143,7 @@ static void sort_voice(const uint64_t *block, uint8_t *voice, unsigned w) {
     switch (w) {
         EACH_WIDTH(CASE)
     default:
-        memset(voice, 0, DELAMPUK_VOICE);
+        memset(voice, 0, DELAMPUK_OCTETS_VOICE);
     }
 #undef CASE
 }
@@ -166,7 +166,7 @@ FORCED void take_data(const uint64_t *block, uint8_t *lsd, unsigned d, unsigned 
         place = take_run(block + frame + end, FRAME_EIGHTS - end, place, d, 1);
     }
     size_t used = EIGHTS * d + 2 * (end - first);
-    memset(lsd + used, 0, DELAMPUK_LSD - used);
+    memset(lsd + used, 0, DELAMPUK_OCTETS_LSD - used);
 }
 
 FORCED void take_few(const uint64_t *block, uint8_t *lsd, unsigned bits) {
@@ -175,7 +175,7 @@ FORCED void take_few(const uint64_t *block, uint8_t *lsd, unsigned bits) {
         uint64_t channel = (uint64_t)gather_bits(block[frame + 3]) << 8 | gather_bits(block[frame + 4]);
         stream = stream << bits | (channel & (((uint64_t)1 << bits) - 1));
     }
-    memset(lsd, 0, DELAMPUK_LSD);
+    memset(lsd, 0, DELAMPUK_OCTETS_LSD);
     store_eight(lsd, stream << (64 - 2 * bits));
 }
 
@@ -191,27 +191,27 @@ static void sort_data(const uint64_t *block, uint8_t *lsd, uint8_t value) {
     switch (value) {
         EACH_DATA(FEW, RUNS)
     default:
-        memset(lsd, 0, DELAMPUK_LSD);
+        memset(lsd, 0, DELAMPUK_OCTETS_LSD);
     }
 #undef FEW
 #undef RUNS
 }
 
-struct delampuk_read_outcome limit_read(struct delampuk_reader state, const uint8_t *line, size_t line_length, uint8_t *voice,
-                                        size_t voice_length, uint8_t *lsd, size_t lsd_length) {
-    uint8_t number = refusal_of_read(&state, line_length, voice_length, lsd_length);
+struct delampuk_read_answer limit_read(struct delampuk_reader *state, const uint8_t *line, size_t line_length, uint8_t *voice,
+                                       size_t voice_length, uint8_t *lsd, size_t lsd_length) {
+    uint8_t number = refusal_of_read(state, line_length, voice_length, lsd_length);
     if (number != 0)
-        return read_refused(state, number);
+        return read_refused(number);
     uint64_t block[EIGHTS];
     struct service service = load_block(block, line);
-    struct delampuk_mode mode = state.mode;
-    struct delampuk_block_answer answer = advance_reader(&state, &service, read_word(service.even_word, service.odd_word));
-    if (answer.standing == DELAMPUK_READ) {
+    struct delampuk_mode mode = state->mode;
+    struct delampuk_block_answer answer = advance_reader(state, &service, read_word(service.even_word, service.odd_word));
+    if (answer.standing == DELAMPUK_STANDING_READ) {
         sort_voice(block, voice, voice_bits[mode.audio]);
         sort_data(block, lsd, mode.lsd);
     } else {
-        memset(voice, 0, DELAMPUK_VOICE);
-        memset(lsd, 0, DELAMPUK_LSD);
+        memset(voice, 0, DELAMPUK_OCTETS_VOICE);
+        memset(lsd, 0, DELAMPUK_OCTETS_LSD);
     }
-    return (struct delampuk_read_outcome){state, {DELAMPUK_BLOCK, 0, answer}};
+    return (struct delampuk_read_answer){DELAMPUK_READ_BLOCK, 0, answer};
 }

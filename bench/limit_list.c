@@ -54,7 +54,7 @@ static void put_block(struct text *text, size_t count, struct delampuk_block_ans
     static const struct name standings[3] = {{" waiting ", 9}, {" read ", 6}, {" lost ", 6}};
     static const struct name verdicts[3] = {{"none ", 5}, {"good ", 5}, {"bad ", 4}};
     static const char digits[] = "0123456789ABCDEF";
-    bool read = block.reading < DELAMPUK_UNREADABLE;
+    bool read = block.reading < DELAMPUK_WORD_UNREADABLE;
     uint8_t line[LINE_ROOM];
     uint8_t *end = put_name(put_name(put_number(line, count), &standings[block.standing]), &verdicts[block.verdict]);
     end[0] = (uint8_t)(read ? digits[block.code >> 4] : '-');
@@ -66,13 +66,13 @@ static void put_block(struct text *text, size_t count, struct delampuk_block_ans
 /* The blocks from a place on; the answer is the place of the end. The streams are not asked for, and not sorted out. */
 static size_t put_walk(struct text *text, const uint8_t *recording, size_t length, size_t place) {
     struct delampuk_reader state = fresh_reader_with((struct delampuk_mode){AUDIO_OFF, DATA_OFF});
-    for (size_t count = 0; length - place >= DELAMPUK_LINE; count++) {
+    for (size_t count = 0; length - place >= DELAMPUK_OCTETS_LINE; count++) {
         uint64_t block[EIGHTS];
         struct service service = load_block(block, recording + place);
         struct delampuk_block_answer answer = advance_reader(&state, &service, read_word(service.even_word, service.odd_word));
-        place += DELAMPUK_LINE;
+        place += DELAMPUK_OCTETS_LINE;
         put_block(text, count, answer);
-        if (answer.standing != DELAMPUK_LOST)
+        if (answer.standing != DELAMPUK_STANDING_LOST)
             continue;
         struct delampuk_search_answer found = limit_search(recording, length, place);
         if (found.number != 0)

@@ -92,7 +92,7 @@ static size_t first_place(const struct rows *rows) {
 
 struct delampuk_search_answer limit_search(const uint8_t *recording, size_t length, size_t start) {
     if (search_refused(length, start))
-        return (struct delampuk_search_answer){DELAMPUK_RECORDING, 0};
+        return (struct delampuk_search_answer){.number = DELAMPUK_REFUSAL_RECORDING};
     const uint8_t *part = recording + start;
     length -= start;
     struct rows rows;
@@ -103,7 +103,7 @@ struct delampuk_search_answer limit_search(const uint8_t *recording, size_t leng
         gather_rows(&rows, AHEAD, ROWS + AHEAD, part, length, octet + AHEAD * ROW);
         prepare_rows(&rows, AHEAD - 1, ROWS + AHEAD - 1);
         if (search_rows(&rows))
-            return (struct delampuk_search_answer){0, start + octet + first_place(&rows)};
+            return (struct delampuk_search_answer){.place = start + octet + first_place(&rows)};
     }
-    return (struct delampuk_search_answer){DELAMPUK_NO_PLACE, 0};
+    return (struct delampuk_search_answer){.number = DELAMPUK_REFUSAL_NO_PLACE};
 }

@@ -5,7 +5,7 @@
 #include "../rules/reading.h"
 #include "eight.h"
 
-enum { EIGHTS = DELAMPUK_LINE / 8, FRAME_EIGHTS = EIGHTS / 2 };
+enum { EIGHTS = DELAMPUK_OCTETS_LINE / 8, FRAME_EIGHTS = EIGHTS / 2 };
 
 #define WITHOUT_C_BITS 0xFFFFFFFFFEFEFEFEu
 

@@ -18,12 +18,12 @@ static inline bool reader_in_range(const struct delampuk_reader *state) {
 
 static inline uint8_t refusal_of_read(const struct delampuk_reader *state, size_t line_length, size_t voice_length, size_t lsd_length) {
     if (!reader_in_range(state))
-        return DELAMPUK_BAD_STATE;
-    if (line_length != DELAMPUK_LINE)
-        return DELAMPUK_LINE_LENGTH;
-    if (voice_length != DELAMPUK_VOICE)
-        return DELAMPUK_VOICE_LENGTH;
-    return lsd_length != DELAMPUK_LSD ? DELAMPUK_LSD_LENGTH : 0;
+        return DELAMPUK_REFUSAL_STATE;
+    if (line_length != DELAMPUK_OCTETS_LINE)
+        return DELAMPUK_REFUSAL_LINE;
+    if (voice_length != DELAMPUK_OCTETS_VOICE)
+        return DELAMPUK_REFUSAL_VOICE;
+    return lsd_length != DELAMPUK_OCTETS_LSD ? DELAMPUK_REFUSAL_LSD : 0;
 }
 
 static inline int bits_set(uint8_t octet) {
@@ -64,10 +64,10 @@ static inline uint8_t take_plain(struct delampuk_reader *state, uint8_t code) {
     if (attribute_of(code) == ESCAPE)
         state->slot.kind = value < 24 ? 1 : value > 24 ? 2 : 0;
     else if (attribute_of(code) <= DATA && !carried(code))
-        return DELAMPUK_NOT_FOLLOWED;
+        return DELAMPUK_WORD_NOT_FOLLOWED;
     else
         follow(&state->mode, code);
-    return DELAMPUK_MENDED;
+    return DELAMPUK_WORD_MENDED;
 }
 
 /* A word in its slot, which is tidy: its reading. */
@@ -79,12 +79,12 @@ static inline uint8_t take_word(struct delampuk_reader *state, int code) {
     else if (slot.kind == 3)
         state->slot = message_of((uint8_t)(slot.words - 1));
     if (code == UNREADABLE)
-        return DELAMPUK_UNREADABLE;
+        return DELAMPUK_WORD_UNREADABLE;
     if (slot.kind == 0)
         return take_plain(state, (uint8_t)code);
     if (slot.kind > 1)
-        return DELAMPUK_MESSAGE_WORD;
-    return attribute_of((uint8_t)code) == ESCAPE ? DELAMPUK_ITEM_FORBIDDEN : DELAMPUK_ITEM;
+        return DELAMPUK_WORD_MESSAGE;
+    return attribute_of((uint8_t)code) == ESCAPE ? DELAMPUK_WORD_FORBIDDEN : DELAMPUK_WORD_ITEM;
 }
 
 static inline void compare_pattern(struct delampuk_reader *state, bool right) {
@@ -126,17 +126,17 @@ static inline bool count_wrong_words(struct delampuk_reader *state, int wrong_bi
 static inline struct delampuk_block_answer advance_reader(struct delampuk_reader *state, const struct service *service, int code) {
     int wrong_bits = wrong_bits_of(service);
     if (count_wrong_words(state, wrong_bits))
-        return (struct delampuk_block_answer){DELAMPUK_LOST, DELAMPUK_NO_VERDICT, DELAMPUK_NOT_READ, 0};
-    struct delampuk_block_answer answer = {DELAMPUK_WAITING, DELAMPUK_NO_VERDICT, DELAMPUK_NOT_READ, 0};
+        return (struct delampuk_block_answer){DELAMPUK_STANDING_LOST, DELAMPUK_VERDICT_NONE, DELAMPUK_WORD_NOT_READ, 0};
+    struct delampuk_block_answer answer = {DELAMPUK_STANDING_WAITING, DELAMPUK_VERDICT_NONE, DELAMPUK_WORD_NOT_READ, 0};
     if (state->before != 0)
-        answer.verdict = (service->odd & 15) == state->remainder ? DELAMPUK_GOOD : DELAMPUK_BAD;
+        answer.verdict = (service->odd & 15) == state->remainder ? DELAMPUK_VERDICT_GOOD : DELAMPUK_VERDICT_BAD;
     state->before = 1;
     state->remainder = service->remainder;
     state->slot = tidy_slot(state->slot);
     if (state->block != 0) {
         if (wrong_bits > 2)
             code = UNREADABLE;
-        answer.standing = DELAMPUK_READ;
+        answer.standing = DELAMPUK_STANDING_READ;
         answer.reading = take_word(state, code);
         answer.code = code == UNREADABLE ? 0 : (uint8_t)code;
     }
@@ -146,9 +146,9 @@ static inline struct delampuk_block_answer advance_reader(struct delampuk_reader
     return answer;
 }
 
-static inline struct delampuk_read_outcome read_refused(struct delampuk_reader state, uint8_t number) {
-    struct delampuk_block_answer none = {DELAMPUK_WAITING, DELAMPUK_NO_VERDICT, DELAMPUK_NOT_READ, 0};
-    return (struct delampuk_read_outcome){state, {DELAMPUK_READ_REFUSED, number, none}};
+static inline struct delampuk_read_answer read_refused(uint8_t number) {
+    struct delampuk_block_answer none = {DELAMPUK_STANDING_WAITING, DELAMPUK_VERDICT_NONE, DELAMPUK_WORD_NOT_READ, 0};
+    return (struct delampuk_read_answer){DELAMPUK_READ_REFUSED, number, none};
 }
 
 #endif

@@ -4,10 +4,10 @@
 
 #include "codes.h"
 
-enum { SEARCH_SEEN = DELAMPUK_LINE + 8 };
+enum { SEARCH_SEEN = DELAMPUK_OCTETS_LINE + 8 };
 
 static inline bool search_refused(size_t length, size_t start) {
-    return length > DELAMPUK_RECORDING_MAX || start > length || length - start < SEARCH_SEEN;
+    return length > DELAMPUK_OCTETS_RECORDING || start > length || length - start < SEARCH_SEEN;
 }
 
 #endif

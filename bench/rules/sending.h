@@ -27,30 +27,30 @@ static inline bool sender_in_range(const struct delampuk_sender *state) {
 static inline uint8_t refusal_of_code(const struct delampuk_sender *state, bool mute, uint8_t code, enum turn turn) {
     uint8_t attribute = attribute_of(code);
     if (turn == TURN_ITEM)
-        return attribute == ESCAPE ? DELAMPUK_FORBIDDEN_ITEM : 0;
+        return attribute == ESCAPE ? DELAMPUK_REFUSAL_ITEM : 0;
     if (turn != TURN_OFFERED)
         return 0;
     if (!carried(code))
-        return DELAMPUK_NOT_CARRIED;
+        return DELAMPUK_REFUSAL_NOT_CARRIED;
     if (attribute == AUDIO && mute)
-        return DELAMPUK_AUDIO_WHILE_MUTED;
+        return DELAMPUK_REFUSAL_MUTED;
     if (attribute == AUDIO && overlap(value_of(code), state->mode.lsd))
-        return DELAMPUK_OVERLAP;
+        return DELAMPUK_REFUSAL_OVERLAP;
     if (attribute == DATA && overlap(state->chosen, value_of(code)))
-        return DELAMPUK_OVERLAP;
+        return DELAMPUK_REFUSAL_OVERLAP;
     return 0;
 }
 
 static inline uint8_t refusal_of_send(const struct delampuk_sender *state, bool mute, uint8_t code, enum turn turn, size_t voice_length,
                                       size_t lsd_length, size_t line_length) {
     if (!sender_in_range(state))
-        return DELAMPUK_BAD_STATE;
-    if (line_length != DELAMPUK_LINE)
-        return DELAMPUK_LINE_LENGTH;
-    if (voice_length != DELAMPUK_VOICE)
-        return DELAMPUK_VOICE_LENGTH;
-    if (lsd_length != DELAMPUK_LSD)
-        return DELAMPUK_LSD_LENGTH;
+        return DELAMPUK_REFUSAL_STATE;
+    if (line_length != DELAMPUK_OCTETS_LINE)
+        return DELAMPUK_REFUSAL_LINE;
+    if (voice_length != DELAMPUK_OCTETS_VOICE)
+        return DELAMPUK_REFUSAL_VOICE;
+    if (lsd_length != DELAMPUK_OCTETS_LSD)
+        return DELAMPUK_REFUSAL_LSD;
     return refusal_of_code(state, mute, code, turn);
 }
 
@@ -92,7 +92,7 @@ static inline void advance_sender(struct delampuk_sender *state, enum turn turn,
 
 static inline struct delampuk_send_answer send_answer(enum turn turn) {
     bool held = turn == TURN_MUTE_OFF || turn == TURN_RELEASE;
-    return (struct delampuk_send_answer){held ? DELAMPUK_HELD : DELAMPUK_SENT, 0};
+    return (struct delampuk_send_answer){held ? DELAMPUK_SEND_HELD : DELAMPUK_SEND_SENT, 0};
 }
 
 /* First bits of the even and odd frames of blocks 1 to 8; block 8's even one is T. */

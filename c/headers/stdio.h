@@ -2,8 +2,11 @@
 #pragma once
 #include <stddef.h>
 typedef struct _IO_FILE FILE;
-extern FILE *stdin, *stdout;
+extern FILE *stdin, *stdout, *stderr;
 int printf(const char *format, ...);
+int fprintf(FILE *to, const char *format, ...);
+int sprintf(char *to, const char *format, ...);
+int putchar(int octet);
 size_t fread(void *to, size_t size, size_t count, FILE *from);
 size_t fwrite(const void *from, size_t size, size_t count, FILE *to);
 int fflush(FILE *file);

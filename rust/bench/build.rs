@@ -8,13 +8,19 @@ use std::process::Command;
 
 const FLAGS: [&str; 7] = ["-O3", "-std=c11", "-Wall", "-Wextra", "-Werror", "-pedantic", "-fPIC"];
 
-/// The calls that are timed.
-const CALLS: [&str; 4] = ["delampuk_send", "delampuk_read", "delampuk_search", "delampuk_list"];
+/// The calls that are timed, as they stand in a header's declarations.
+const CALLS: [&str; 4] = [" delampuk_send (", " delampuk_read (", " delampuk_search (", " delampuk_list ("];
+
+/// What was declared of them while states were handed over by value, before version 0.2.0.
+const BY_VALUE: &str = include_str!("src/contestants/by_value.h");
+
+/// What has to be as it was, for such an archive to be called with today's structs.
+const OF_BY_VALUE: [&str; 3] = [" delampuk_send (", "struct delampuk_reader {", "struct delampuk_read_answer {"];
 
 fn main() {
-    println!("cargo::rerun-if-changed=build.rs");
-    println!("cargo::rerun-if-env-changed=DELAMPUK_BEFORE");
-    println!("cargo::rustc-check-cfg=cfg(before)");
+    println!("cargo:rerun-if-changed=build.rs");
+    println!("cargo:rerun-if-env-changed=DELAMPUK_BEFORE");
+    println!("cargo:rustc-check-cfg=cfg(before, before_by_value)");
     let root = PathBuf::from(env::var_os("CARGO_MANIFEST_DIR").expect("cargo names the package")).join("../..");
     let out = PathBuf::from(env::var_os("OUT_DIR").expect("cargo names a folder to write to"));
     if env::var_os("CARGO_FEATURE_CONTESTANTS").is_some() {
@@ -22,16 +28,16 @@ fn main() {
     }
     if let Some(folder) = env::var_os("DELAMPUK_BEFORE").filter(|folder| !folder.is_empty()) {
         match link_before(&root, Path::new(&folder), &out) {
-            Ok(()) => println!("cargo::rustc-cfg=before"),
-            Err(reason) => println!("cargo::rustc-env=DELAMPUK_NO_BEFORE={reason}"),
+            Ok(cfgs) => cfgs.iter().for_each(|cfg| println!("cargo:rustc-cfg={cfg}")),
+            Err(reason) => println!("cargo:rustc-env=DELAMPUK_NO_BEFORE={reason}"),
         }
     }
 }
 
 fn link_contestants(root: &Path, out: &Path) {
     let (sources, headers) = (root.join("bench"), root.join("include"));
-    println!("cargo::rerun-if-changed={}", sources.display());
-    println!("cargo::rerun-if-changed={}", headers.display());
+    println!("cargo:rerun-if-changed={}", sources.display());
+    println!("cargo:rerun-if-changed={}", headers.display());
     let objects = files_in_c(&sources).into_iter().map(|source| {
         let object = out.join(source.file_name().expect("a file has a name")).with_extension("o");
         run(Command::new("cc").args(FLAGS).arg("-I").arg(&headers).arg("-c").arg(source).arg("-o").arg(&object));
@@ -41,31 +47,46 @@ fn link_contestants(root: &Path, out: &Path) {
     // ar would keep what a source of an earlier build has left in it
     let _ = fs::remove_file(&archive);
     run(Command::new("ar").arg("crs").arg(archive).args(objects));
-    println!("cargo::rustc-link-search=native={}", out.display());
-    println!("cargo::rustc-link-lib=static=contestants");
+    println!("cargo:rustc-link-search=native={}", out.display());
+    println!("cargo:rustc-link-lib=static=contestants");
 }
 
-/// Links the earlier archive, unless its calls take other structs than today's.
-fn link_before(root: &Path, folder: &Path, out: &Path) -> Result<(), String> {
-    let (archive, header) = (folder.join("libcard.a"), folder.join("delampuk.h"));
-    println!("cargo::rerun-if-changed={}", archive.display());
-    println!("cargo::rerun-if-changed={}", header.display());
+/// Links the earlier archive, unless its calls take structs that cannot be given; answers by which form it is called.
+fn link_before(root: &Path, folder: &Path, out: &Path) -> Result<&'static [&'static str], String> {
+    let (archive, header) = (folder.join("libdelampuk.a"), folder.join("delampuk.h"));
+    println!("cargo:rerun-if-changed={}", archive.display());
+    println!("cargo:rerun-if-changed={}", header.display());
     let no_header = "there is no delampuk.h beside the archive, so that its structs cannot be compared with today's";
     let before = fs::read_to_string(&header).map_err(|_| no_header)?;
     let now = fs::read_to_string(root.join("include/delampuk.h")).expect("the library has a header");
-    for call in CALLS {
-        if interface(&before, call)? != interface(&now, call)? {
-            return Err(format!(
-                "{call}, or a struct that it takes or gives, is declared otherwise in the earlier header"
-            ));
-        }
-    }
+    let cfgs = form(&before, &now)?;
     let (names, renamed) = (out.join("names"), out.join("libbefore.a"));
     fs::write(&names, new_names(&archive)?).map_err(|error| error.to_string())?;
     let _ = fs::remove_file(&renamed);
     output_of("objcopy", &[Path::new("--redefine-syms"), &names, &archive, &renamed])?;
-    println!("cargo::rustc-link-search=native={}", out.display());
-    println!("cargo::rustc-link-lib=static=before");
+    println!("cargo:rustc-link-search=native={}", out.display());
+    println!("cargo:rustc-link-lib=static=before");
+    Ok(cfgs)
+}
+
+/// The form of an earlier header's calls: today's, or by value.
+fn form(before: &str, now: &str) -> Result<&'static [&'static str], String> {
+    let differs = match same(before, now, &CALLS) {
+        Ok(()) => return Ok(&["before"]),
+        Err(differs) => differs,
+    };
+    same(before, BY_VALUE, &CALLS).and_then(|()| same(BY_VALUE, now, &OF_BY_VALUE)).map_err(|_| differs)?;
+    Ok(&["before", "before_by_value"])
+}
+
+/// Whether two headers declare the same of all that is named; the error says of what they do not.
+fn same(one: &str, other: &str, names: &[&str]) -> Result<(), String> {
+    for name in names {
+        if declared(one, name)? != declared(other, name)? {
+            let name = name.trim_matches([' ', '(', '{'].as_ref());
+            return Err(format!("{name}, or a struct of it, is declared otherwise in the earlier header"));
+        }
+    }
     Ok(())
 }
 
@@ -87,14 +108,16 @@ fn output_of(program: &str, arguments: &[&Path]) -> Result<String, String> {
     }
 }
 
-/// A call's declaration, and those of the structs that it names, and that these name.
-fn interface(header: &str, call: &str) -> Result<Vec<String>, String> {
+/// The declaration in which some words stand, and those of the structs that it names, and that these name.
+fn declared(header: &str, words: &str) -> Result<Vec<String>, String> {
     let declarations = declarations(header);
-    let find = |what: &str| {
-        let named = declarations.iter().find(|declaration| declaration.contains(what));
-        named.cloned().ok_or_else(|| format!("one of the headers has no {}", what.trim_matches([' ', '(', '{'])))
+    let find = |words: &str| {
+        let named = declarations.iter().find(|declaration| declaration.contains(words));
+        named
+            .cloned()
+            .ok_or_else(|| format!("one of the headers has no {}", words.trim_matches([' ', '(', '{'].as_ref())))
     };
-    let mut found = vec![find(&format!(" {call} ("))?];
+    let mut found = vec![find(words)?];
     let mut next = 0;
     while next < found.len() {
         let words: Vec<String> = found[next].split(' ').map(str::to_string).collect();
@@ -119,7 +142,9 @@ fn declarations(header: &str) -> Vec<String> {
             _ => part.split_once("*/").map_or("", |(_, code)| code),
         })
         .collect();
-    let lines = code.lines().filter(|line| !line.trim_start().starts_with('#'));
+    // the bracket around all declarations is for C++, and closes after the last of them
+    let around = |line: &&str| line.starts_with('#') || line.starts_with("extern \"C\"");
+    let lines = code.lines().map(str::trim_start).filter(|line| !around(line));
     let signs: String = lines
         .flat_map(|line| line.chars().chain([' ']))
         .map(|sign| match sign {

@@ -2,7 +2,8 @@
 ghost use mathlib.Core.Path.{_≡_};
 ghost use Rattle.slots.specs.Readings.{readingKind, readingCode};
 ghost use Rattle.track.specs.Parts.{standingNumber, verdictNumber};
-ghost use Rattle.answers.specs.Answers.{sendAnswerOf, blockAnswerOf, nothingRead, readAnswerOf, searchAnswerOf, stepAnswerOf};
+ghost use Rattle.presets.specs.Presets.{presetNumber};
+ghost use Rattle.answers.specs.Answers.{sendAnswerOf, blockAnswerOf, nothingRead, readAnswerOf, searchAnswerOf, stepAnswerOf, presetAnswerOf, presetBitsOf};
 use search::Found;
 use slots::Reading;
 use track::Report;
@@ -34,20 +35,37 @@ pub struct ReadAnswer {
     pub block: BlockAnswer,
 }
 
-// The place found and number 0, or place 0 and the refusal's number.
+// The place found and number 0, or place 0 and the refusal's number. Reserved octets are 0, so that no octet of an answer is left unset.
 #[repr(C)]
 pub struct SearchAnswer {
-    pub number: u8,
     pub place: usize,
+    pub number: u8,
+    pub reserved: [u8; 7],
 }
 
 // Kind 0 is a block, 1 a place, 2 the end and 3 refused; the value is the place found or the octets left, and 0 for the other two.
 #[repr(C)]
 pub struct StepAnswer {
+    pub value: usize,
     pub kind: u8,
     pub number: u8,
     pub block: BlockAnswer,
-    pub value: usize,
+    pub reserved: [u8; 2],
+}
+
+// The data code to offer and number 0, or "data off" and the refusal's number.
+#[repr(C)]
+pub struct PresetAnswer {
+    pub offer: u8,
+    pub number: u8,
+}
+
+// A preset and number 0, or 0 and a refusal's number.
+#[repr(C)]
+pub struct PresetBits {
+    pub bits: u16,
+    pub number: u8,
+    pub reserved: u8,
 }
 
 // A sending call's answer.
@@ -176,14 +194,16 @@ pub fn search_answer(found: Found) -> SearchAnswer
 {
     match found {
         Found::Place(place) => SearchAnswer {
-            number: 0,
             place: place,
+            number: 0,
+            reserved: [0; 7],
         },
         Found::Refused(why) => {
             let number = refusals::number_of(why);
             SearchAnswer {
-                number: number,
                 place: 0,
+                number: number,
+                reserved: [0; 7],
             }
         }
     }
@@ -198,31 +218,77 @@ pub fn step_answer(answer: recording::Answer) -> StepAnswer
         recording::Answer::Block(report) => {
             let block = block_answer(report);
             StepAnswer {
+                value: 0,
                 kind: 0,
                 number: 0,
                 block: block,
-                value: 0,
+                reserved: [0; 2],
             }
         }
         recording::Answer::Place(place) => StepAnswer {
+            value: place,
             kind: 1,
             number: 0,
             block: nothing,
-            value: place,
+            reserved: [0; 2],
         },
         recording::Answer::End(left) => StepAnswer {
+            value: left,
             kind: 2,
             number: 0,
             block: nothing,
-            value: left,
+            reserved: [0; 2],
         },
         recording::Answer::Refused(why) => {
             let number = refusals::number_of(why);
             StepAnswer {
+                value: 0,
                 kind: 3,
                 number: number,
                 block: nothing,
-                value: 0,
+                reserved: [0; 2],
+            }
+        }
+    }
+}
+
+fn preset_number(answer: presets::PresetAnswer) -> u8
+    ensures { λ r. ⌜ r ≡ presetNumber answer ⌝ }
+{
+    match answer {
+        presets::PresetAnswer::Read => 0,
+        presets::PresetAnswer::Unread(why) => refusals::number_of(why),
+    }
+}
+
+// A preset that was read: the data code to offer.
+pub fn preset_answer(read: presets::PresetRead) -> PresetAnswer
+    ensures { λ r. ⌜ r ≡ presetAnswerOf read ⌝ }
+{
+    let answer = read.answer;
+    let number = preset_number(answer);
+    PresetAnswer {
+        offer: read.offer,
+        number: number,
+    }
+}
+
+// A preset that was written.
+pub fn preset_bits(written: presets::PresetWritten) -> PresetBits
+    ensures { λ r. ⌜ r ≡ presetBitsOf written ⌝ }
+{
+    match written {
+        presets::PresetWritten::Bits(bits) => PresetBits {
+            bits: bits,
+            number: 0,
+            reserved: 0,
+        },
+        presets::PresetWritten::Unwritten(why) => {
+            let number = refusals::number_of(why);
+            PresetBits {
+                bits: 0,
+                number: number,
+                reserved: 0,
             }
         }
     }

@@ -1,13 +1,14 @@
 -- The order on the line, made by turning both of two bits that change places where they differ.
-use mathlib.Core.Path.{_≡_, refl, sym, ap, ap₂, _∙_}
-use mathlib.Core.Bool.{Bool, true, false, xor, _&&_}
+use mathlib.Core.Path.{_≡_, sym, ap, ap₂, _∙_}
+use mathlib.Core.Bool.{Bool, xor, _&&_}
 use mathlib.Core.List.{List, _++_}
 use Prim.Native.Nat.{ℕ, _+_, _*_, _/_, _%_, _^_, _<_}
 use native.Mathlib.Omega.{arith}
 use lib.Bits.{bitXor, bitAnd, and-comm, and-le-r, xor-lt}
 use lib.Pow.{shr-shr}
 use Rattle.bits.specs.Bits.{odd, lowBits, number, zeros, xors}
-use Rattle.bits.proofs.BitLaws.{xor-false, bit-xor, bit-and, lowBits-mod, lowBits-shifted, lowBits-xor, number-fits}
+use Rattle.bits.proofs.BoolLaws.{xor-false, xor-again, xor-other}
+use Rattle.bits.proofs.BitLaws.{bit-xor, bit-and, lowBits-mod, lowBits-shifted, lowBits-xor, number-fits}
 use Rattle.bas.specs.Words.{evenOrder, oddOrder, lineOrder}
 
 -- where the bits that a mask covers differ from those k places higher
@@ -21,21 +22,6 @@ odd-differing k mask w j =
     ∙ bit-and mask x j
     ∙ ap (λ (b : Bool). odd (mask / 2 ^ j) && b)
     (bit-xor w (w / 2 ^ k) j ∙ ap (λ (y : ℕ). xor (odd (w / 2 ^ j)) (odd y)) (shr-shr w k j))
-
--- a bit that is turned where it differs from another is the other
-turned : (a b : Bool) → xor a (xor a b) ≡ b
-unfolding xor
-turned true true = refl
-turned true false = refl
-turned false true = refl
-turned false false = refl
-
-turned-back : (a b : Bool) → xor b (xor a b) ≡ a
-unfolding xor
-turned-back true true = refl
-turned-back true false = refl
-turned-back false true = refl
-turned-back false false = refl
 
 -- k places up, of j + k
 abbrev pub up : ℕ → ℕ → ℕ → ℕ
@@ -60,7 +46,7 @@ bits-exchanged w apart beside =
 
 ordered : (w : ℕ) → lowBits 16 (exchanged w (differing 2 4128 w) (differing 1 1032 w)) ≡ lineOrder (lowBits 16 w)
 unfolding lineOrder evenOrder oddOrder lowBits xors odd
-ordered w = bits-exchanged w (differing 2 4128 w) (differing 1 1032 w) ∙ simp (odd-differing, xor-false, turned, turned-back)
+ordered w = bits-exchanged w (differing 2 4128 w) (differing 1 1032 w) ∙ simp (odd-differing, xor-false, xor-again, xor-other)
 
 -- as a number
 exchanged-lt : (w apart beside : ℕ) → w < 65536 → apart < 65536 → beside < 65536 → exchanged w apart beside < 65536

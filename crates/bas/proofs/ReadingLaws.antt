@@ -21,7 +21,7 @@ use Rattle.bas.specs.Reading.{weight, distance, near, keptIf, codesNear,
 use Rattle.bas.specs.Flips.{lights, syndrome, filled, flipTable, flipsAt}
 use Rattle.bas.specs.declared.Word.the-variants.{Code, Unreadable}
 use Rattle.bas.proofs.WordLaws.{check-bits, length-wordBits, triangle, five-apart}
-use Rattle.bits.proofs.Every.{and-left, and-right, and-make, or-right, everyBelow, below}
+use Rattle.bits.proofs.BoolLaws.{and-left, and-right, and-make, or-right, isnt-true, everyBelow, below}
 
 -- ---- the table's rule
 abbrev all : (List Bool → Bool) → List (List Bool) → Bool
@@ -82,10 +82,6 @@ light (suc n) (suc k) p t (b ∷ e) h w = go b e h w (all-append p (map (before 
         rest (suc k) (λ (l : List Bool). p (false ∷ l)) (all-map p (before false) (lights n (suc k)) (both .0)) e (suc-inj h) (omega arith)
 
 -- ---- the codes that are near
-isnt-true : (b : Bool) → (b ≡ true → ⊥) → b ≡ false
-isnt-true true h = absurd (h refl)
-isnt-true false h = refl
-
 none-near : (w n : ℕ) → ((c : ℕ) → c < n → near w c ≡ true → ⊥) → codesNear w n ≡ []
 unfolding codesNear keptIf
 none-near w zero h = refl
@@ -173,9 +169,9 @@ unfolding checkOf
 check-below c =
     subst (λ (k : ℕ). checkOf c < 2 ^ k) (length-remainder basGenerator (octetBits c)) (number-bound (remainder basGenerator (octetBits c)))
 
--- the place in the table that the code looks at
-pub place : (w : ℕ) → bitXor (checkOf (w / 256)) (w % 256) ≡ number (syndrome (lowBits 16 w))
-place w =
+-- the index at which the code looks into the table of flips is the number that the syndrome spells
+pub index-is-syndrome : (w : ℕ) → bitXor (checkOf (w / 256)) (w % 256) ≡ number (syndrome (lowBits 16 w))
+index-is-syndrome w =
     let i = bitXor (checkOf (w / 256)) (w % 256) in
     let h : w % 256 < 256 = omega arith in
     sym (number-fits 8 i (xor-lt 8 (checkOf (w / 256)) (w % 256) (check-below (w / 256)) h))

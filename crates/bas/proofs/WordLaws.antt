@@ -13,7 +13,7 @@ use Rattle.bits.specs.Bits.{odd, lowBits, octetBits, digit, number, zeros, xors
 use Rattle.bits.specs.Remainder.{scaled, fed, continued, remainder, Leaves}
 use Rattle.bits.proofs.BitLaws.{xors-comm, xors-assoc, xors-zeros, xors-cancel, xors-append, length-lowBits, lowBits-xor, lowBits-zero, lowBits-back, number-fits, number-bound, number-append}
 use Rattle.bits.proofs.RemainderLaws.{length-remainder, remainder-xor, is-remainder, only-remainder}
-use Rattle.bits.proofs.Every.{or-right, everyBelow, below}
+use Rattle.bits.proofs.BoolLaws.{or-right, everyBelow, below}
 use Rattle.bas.specs.Words.{basGenerator, checkOf, wordBits, wordOf, evenOrder, oddOrder, lineOrder}
 use Rattle.bas.specs.Reading.{weight, distance}
 

@@ -11,36 +11,8 @@ use lib.ListN.{length, getD, take, drop, length-append}
 use lib.Seq.{take-at, drop-at}
 use lib.Pow.{pow-pos, pow-add, mod-pow-add, high, split, shr-shr, shl-shr}
 use lib.Bits.{bitXor, bitOr, bitAnd, xor-step, or-step, and-step, xor-shr, or-shr, and-shr, differ}
-use Rattle.bits.specs.Bits.{odd, lowBits, octetBits, scPlace, scBit, bitsOf, digit, number, zeros, xors}
-
--- ---- the sum of two bits
-pub xor-comm : (a b : Bool) → xor a b ≡ xor b a
-unfolding xor
-xor-comm true true = refl
-xor-comm true false = refl
-xor-comm false true = refl
-xor-comm false false = refl
-
-pub xor-assoc : (a b c : Bool) → xor (xor a b) c ≡ xor a (xor b c)
-unfolding xor
-xor-assoc true true true = refl
-xor-assoc true true false = refl
-xor-assoc true false true = refl
-xor-assoc true false false = refl
-xor-assoc false true true = refl
-xor-assoc false true false = refl
-xor-assoc false false true = refl
-xor-assoc false false false = refl
-
-pub xor-false : (a : Bool) → xor a false ≡ a
-unfolding xor
-xor-false true = refl
-xor-false false = refl
-
-pub xor-self : (a : Bool) → xor a a ≡ false
-unfolding xor
-xor-self true = refl
-xor-self false = refl
+use Rattle.bits.proofs.BoolLaws.{xor-comm, xor-assoc, xor-false, xor-self}
+use Rattle.bits.specs.Bits.{odd, lowBits, octetBits, scBit, withoutSc, bitsOf, digit, number, zeros, xors}
 
 -- ---- the sum of two lists of bits
 pub xors-comm : (xs ys : List Bool) → xors xs ys ≡ xors ys xs
@@ -181,10 +153,17 @@ unfolding bitsOf
 bitsOf-append [] t = refl
 bitsOf-append (x ∷ s) t = ap (λ (l : List Bool). octetBits x ++ l) (bitsOf-append s t) ∙ sym (append-assoc (octetBits x) (bitsOf s) (bitsOf t))
 
--- the SC bit is the bit at its place
-pub sc-is : (x : ℕ) → getD (octetBits x) (scPlace - 1) false ≡ scBit x
-unfolding lowBits
+-- the SC bit is the lowest, and what is left without it is even
+pub sc-is : (x : ℕ) → scBit x ≡ odd x
+unfolding scBit lowBits
 sc-is x = ap odd (div-one x)
+
+pub without-sc : (x : ℕ) → withoutSc x ≡ x / 2 * 2
+unfolding withoutSc
+without-sc x = rw sc-is (omega (arith, digit-odd x))
+
+pub same-without : (x y : ℕ) → x / 2 ≡ y / 2 → withoutSc x ≡ withoutSc y
+same-without x y e = without-sc x ∙ ap (λ (n : ℕ). n * 2) e ∙ sym (without-sc y)
 
 pub bitsOf-one : (x : ℕ) → bitsOf (x ∷ []) ≡ octetBits x
 unfolding bitsOf

@@ -1,6 +1,6 @@
 pub mod BitLaws
+pub mod BoolLaws
 pub mod EightLaws
-pub mod Every
 pub mod PackLaws
 pub mod RemainderLaws
 pub mod RunLaws

@@ -9,7 +9,8 @@ use native.Mathlib.Omega.{arith}
 use lib.ListN.{length, length-append, length-replicate, replicate-append-replicate}
 use Rattle.bits.specs.Bits.{zeros, xors}
 use Rattle.bits.specs.Remainder.{scaled, fed, continued, remainder, product, Leaves}
-use Rattle.bits.proofs.BitLaws.{xor-comm, xor-assoc, xors-comm, xors-assoc, xors-medial, length-xors, xor-false, xors-zeros, xors-self, xors-cancel, xors-append}
+use Rattle.bits.proofs.BoolLaws.{xor-comm, xor-assoc, xor-false}
+use Rattle.bits.proofs.BitLaws.{xors-comm, xors-assoc, xors-medial, length-xors, xors-zeros, xors-self, xors-cancel, xors-append}
 
 -- ---- the register keeps its width
 length-scaled : (b : Bool) (g : List Bool) → length (scaled b g) ≡ length g
@@ -259,7 +260,7 @@ continued-is g r m n k hr hm =
       joined ∙ division g r m hr k ∙ ap (λ (n : ℕ). xors (product g (quotient g r m)) (zeros n ++ continued g r m)) (sym hx),
     )
 
--- ---- a period: so many zeros over which every remainder comes back to itself
+-- ---- a period of g: n zeros over which every remainder comes back to itself
 abbrev pub Period : List Bool → ℕ → Type 0
 Period g n = (r : List Bool) → length r ≡ length g → continued g r (zeros n) ≡ r
 

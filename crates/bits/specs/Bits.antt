@@ -2,7 +2,7 @@
 -- A bit is a Bool, and bits are a list of them, first bit first. Numbers stand only at the edge.
 use mathlib.Core.Bool.{Bool, true, false, xor}
 use mathlib.Core.List.{List, [], _∷_, _++_}
-use Prim.Native.Nat.{ℕ, zero, suc, _+_, _*_, _/_, _%_, _^_}
+use Prim.Native.Nat.{ℕ, zero, suc, _+_, _-_, _*_, _/_, _%_, _^_}
 use lib.Dec.{eqb}
 use lib.ListN.{length, getD, take, drop, replicate}
 
@@ -23,12 +23,9 @@ octetBits x = lowBits 8 x
 abbrev pub scPlace : ℕ
 scPlace = 8
 
--- that bit, the octet's lowest (proofs/BitLaws, sc-is), and the octet with that bit 0
-abbrev pub scBit : ℕ → Bool
-scBit octet = odd octet
-
-abbrev pub withoutSc : ℕ → ℕ
-withoutSc octet = octet / 2 * 2
+-- that bit: the octet's lowest (proofs/BitLaws, sc-is)
+unfoldable pub scBit : ℕ → Bool
+scBit octet = getD (octetBits octet) (scPlace - 1) false
 
 -- octets in sending order
 unfoldable pub bitsOf : List ℕ → List Bool
@@ -39,6 +36,10 @@ bitsOf (x ∷ xs) = octetBits x ++ bitsOf xs
 abbrev pub digit : Bool → ℕ
 digit true = 1
 digit false = 0
+
+-- an octet with its SC bit 0
+unfoldable pub withoutSc : ℕ → ℕ
+withoutSc octet = octet - digit (scBit octet) * 2 ^ (8 - scPlace)
 
 -- the number that bits spell, most significant first
 unfoldable pub number : List Bool → ℕ

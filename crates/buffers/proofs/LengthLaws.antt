@@ -4,7 +4,7 @@ use mathlib.Core.Bool.{true, false, not, _&&_}
 use Prim.Native.Nat.{ℕ}
 use borrow.Author.Tests.{eqb-true, not-false}
 use lib.Dec.{eqb}
-use Rattle.bits.proofs.Every.{and-left, and-right}
+use Rattle.bits.proofs.BoolLaws.{and-left, and-right}
 use Rattle.buffers.specs.Buffers.{Each, each}
 use Rattle.buffers.specs.Lengths.{lineOctets, streamOctets, fitting}
 

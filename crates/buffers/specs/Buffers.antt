@@ -3,7 +3,7 @@ use mathlib.Core.List.{List}
 use Prim.Native.Nat.{ℕ}
 use lib.ListN.{length}
 
--- something for each stream
+-- something for each stream (DECISIONS F49)
 pub record Each (A : Type 0) : Type 0 where
   pub voice : A
   pub lsd : A

@@ -1,104 +1,65 @@
-// What a card driver in C calls. An answer is numbers here, by the definitions of specs/, which give document 01's number and values for
-// each case. No call asks anything of its numbers and lengths: each of them is answered.
+// What a card driver in C calls. States are lent, answers are numbers, and no call asks anything of its numbers and lengths: each of them is
+// answered. A call over a lent state is thin over one by value, and stands in a form that tools/gen_drive.py writes the proof of.
 ghost use mathlib.Core.Path.{_≡_};
 ghost use Rattle.buffers.specs.Buffers.{each};
 ghost use Rattle.modes.specs.Modes.{audioOff, off};
 ghost use Rattle.search.specs.Finding.{searchOf};
 ghost use Rattle.sender.specs.Step.{lineOf};
 ghost use Rattle.control.specs.State.{freshWith};
-ghost use Rattle.presets.specs.Presets.{presetRead, presetWritten, presetNumber};
 ghost use Rattle.track.specs.State.{freshIn};
+ghost use Rattle.reader.specs.Step.{buffersOf};
 ghost use Rattle.text.specs.Over.{Written};
 ghost use Rattle.scribe.specs.Listing.{listingOf};
 ghost use Rattle.answers.specs.Answers.{searchAnswerOf};
-ghost use Rattle.card.specs.Sending.{on, callOf, sent};
-ghost use Rattle.card.specs.Reading.{ReadTold};
-ghost use Rattle.card.specs.Walking.{markAfter, StepTold};
-ghost use Rattle.card.specs.Presets.{presetOutcomeOf, presetBitsOf};
+ghost use Rattle.calls.specs.Sending.{callOf, sent};
+ghost use Rattle.calls.specs.Reading.{readTaken};
+ghost use Rattle.calls.specs.Walking.{walkFrom, stepTaken, stepBuffers};
+ghost use Rattle.calls.specs.Presets.{presetTaken, presetGiven};
+ghost use Rattle.saving.specs.Saved.{senderSaved, senderKept, senderLoaded, readerSaved, readerKept, readerLoaded, walkSaved, walkKept, walkLoaded};
+ghost use Rattle.asking.specs.Asked.{library, fitsVersion, senderTold, readerTold, countsOf, codeTold};
+use answers::PresetAnswer;
+use answers::PresetBits;
 use answers::ReadAnswer;
 use answers::SearchAnswer;
 use answers::SendAnswer;
 use answers::StepAnswer;
-use control::Call;
+use asking::CodeTold;
+use asking::Counts;
+use asking::Library;
+use asking::ReaderTold;
+use asking::SenderTold;
+use calls::WalkState;
 use control::Sender;
+use modes::Mode;
 use track::Reader;
 
-pub struct SendStepped {
-    pub state: Sender,
-    pub answer: SendAnswer,
-}
-
-#[repr(C)]
-pub struct ReadOutcome {
-    pub state: Reader,
-    pub answer: ReadAnswer,
-}
-
-// What a step leaves: the reader's state, where the walk stands, whether the block before was lost, and the answer.
-#[repr(C)]
-pub struct StepOutcome {
-    pub reader: Reader,
-    pub lost: u8,
-    pub place: usize,
-    pub answer: StepAnswer,
-}
-
-// A state to start from and the data code to offer, with number 0, or a refusal's number.
-#[repr(C)]
-pub struct PresetOutcome {
-    pub state: Sender,
-    pub offer: u8,
-    pub number: u8,
-}
-
-// A preset and number 0, or 0 and a refusal's number.
-#[repr(C)]
-pub struct PresetBits {
-    pub bits: u16,
-    pub number: u8,
-}
-
-// A switch of C. It is an octet, for a bool that holds neither 0 nor 1 is undefined in C, and here every octet is answered (DECISIONS F30).
-fn is_on(switch: u8) -> bool
-    ensures { λ r. ⌜ r ≡ on switch ⌝ }
+// Which library this is.
+#[no_mangle]
+pub extern "C" fn delampuk_about() -> Library
+    ensures { λ r. ⌜ r ≡ library ⌝ }
 {
-    switch != 0
+    asking::about()
 }
 
-// One sending call by value: the state goes in and comes back.
-fn send_step(
-    state: Sender,
-    mute: u8,
-    code: u8,
-    a: u8,
-    e: u8,
-    t: u8,
-    voice: &[u8],
-    lsd: &[u8],
-    line: &mut [u8],
-) -> SendStepped
-    ensures { λ r. ⌜ (r ≡ sent state (callOf mute code a e t) (each (now (voice .entry)) (now (lsd .entry))) (now (line .entry)))
-        × (now (line .exit) ≡ lineOf state (callOf mute code a e t) (each (now (voice .entry)) (now (lsd .entry))) (now (line .entry))) ⌝ }
+// Whether a driver that was compiled for a version can call this library.
+#[no_mangle]
+pub extern "C" fn delampuk_fits(version: u32) -> u8
+    ensures { λ r. ⌜ r ≡ fitsVersion version ⌝ }
 {
-    let call = Call {
-        mute: is_on(mute),
-        code: code,
-        a: is_on(a),
-        e: is_on(e),
-        t: is_on(t),
-    };
-    let outcome = sender::send(state, call, voice, lsd, line);
-    let next = outcome.state;
-    let answer = outcome.answer;
-    let told = answers::send_answer(answer);
-    SendStepped {
-        state: next,
-        answer: told,
-    }
+    asking::fits(version)
 }
 
-// One sending call over the lent state: it is advanced, or untouched after a refusal. The body stands in the one form that
-// tools/gen_drive.py writes the proof of.
+// ---- sending
+
+// The state that a sender starts in.
+#[no_mangle]
+pub extern "C" fn delampuk_start_sender(state: &mut Sender)
+    ensures { λ _. ⌜ now (state .exit) ≡ freshWith audioOff ⌝ }
+{
+    *state = control::fresh();
+}
+
+// One sending call: the state is advanced, or untouched after a refusal.
 #[no_mangle]
 pub extern "C" fn delampuk_send(
     state: &mut Sender,
@@ -115,92 +76,111 @@ pub extern "C" fn delampuk_send(
         × (now (state .exit) ≡ sent (now (state .entry)) (callOf mute code a e t) (each (now (voice .entry)) (now (lsd .entry))) (now (line .entry)) .state)
         × (now (line .exit) ≡ lineOf (now (state .entry)) (callOf mute code a e t) (each (now (voice .entry)) (now (lsd .entry))) (now (line .entry))) ⌝ }
 {
-    let stepped = send_step(*state, mute, code, a, e, t, voice, lsd, line);
+    let stepped = calls::send_step(*state, mute, code, a, e, t, voice, lsd, line);
     *state = stepped.state;
     stepped.answer
 }
 
-// The state that a sender starts in.
+// What a sender has in force, chosen and due.
 #[no_mangle]
-pub extern "C" fn delampuk_fresh_sender() -> Sender
-    ensures { λ r. ⌜ r ≡ freshWith audioOff ⌝ }
+pub extern "C" fn delampuk_tell_sender(state: &Sender) -> SenderTold
+    ensures { λ r. ⌜ r ≡ senderTold (now (state .entry)) ⌝ }
 {
-    control::fresh()
+    asking::sender_told(*state)
 }
 
-fn preset_number(answer: presets::PresetAnswer) -> u8
-    ensures { λ r. ⌜ r ≡ presetNumber answer ⌝ }
+// A sender's saved form, and a sender from one.
+#[no_mangle]
+pub extern "C" fn delampuk_save_sender(state: &Sender, saved: &mut [u8]) -> u8
+    ensures { λ r. ⌜ (r ≡ senderSaved (now (state .entry)) (now (saved .entry)))
+        × (now (saved .exit) ≡ senderKept (now (state .entry)) (now (saved .entry))) ⌝ }
 {
-    match answer {
-        presets::PresetAnswer::Read => 0,
-        presets::PresetAnswer::Unread(why) => refusals::number_of(why),
-    }
+    saving::save_sender(*state, saved)
 }
 
-// A preset's state to start from, and the data code to offer.
 #[no_mangle]
-pub extern "C" fn delampuk_read_preset(bits: u16) -> PresetOutcome
-    ensures { λ r. ⌜ r ≡ presetOutcomeOf (presetRead bits) ⌝ }
+pub extern "C" fn delampuk_load_sender(state: &mut Sender, saved: &[u8]) -> u8
+    ensures { λ r. ⌜ (r ≡ senderLoaded (now (state .entry)) (now (saved .entry)) .answer)
+        × (now (state .exit) ≡ senderLoaded (now (state .entry)) (now (saved .entry)) .state) ⌝ }
 {
-    let read = presets::read_preset(bits);
-    let state = read.state;
-    let answer = read.answer;
-    let number = preset_number(answer);
-    PresetOutcome {
-        state: state,
-        offer: read.offer,
-        number: number,
-    }
+    let stepped = saving::load_sender(*state, saved);
+    *state = stepped.state;
+    stepped.answer
+}
+
+// A preset's state to start from, and the data code to offer; or a refusal, and the state as it was.
+#[no_mangle]
+pub extern "C" fn delampuk_read_preset(state: &mut Sender, bits: u16) -> PresetAnswer
+    ensures { λ r. ⌜ (r ≡ presetTaken (now (state .entry)) bits .answer) × (now (state .exit) ≡ presetTaken (now (state .entry)) bits .state) ⌝ }
+{
+    let stepped = calls::preset_step(*state, bits);
+    *state = stepped.state;
+    stepped.answer
 }
 
 // A state's chosen audio and data in force, as a preset.
 #[no_mangle]
-pub extern "C" fn delampuk_write_preset(state: Sender) -> PresetBits
-    ensures { λ r. ⌜ r ≡ presetBitsOf (presetWritten state) ⌝ }
+pub extern "C" fn delampuk_write_preset(state: &Sender) -> PresetBits
+    ensures { λ r. ⌜ r ≡ presetGiven (now (state .entry)) ⌝ }
 {
-    let written = presets::write_preset(state);
-    match written {
-        presets::PresetWritten::Bits(bits) => PresetBits {
-            bits: bits,
-            number: 0,
-        },
-        presets::PresetWritten::Unwritten(why) => {
-            let number = refusals::number_of(why);
-            PresetBits {
-                bits: 0,
-                number: number,
-            }
-        }
-    }
+    calls::preset_of(*state)
 }
+
+// ---- reading
 
 // The state that a reader starts in.
 #[no_mangle]
-pub extern "C" fn delampuk_fresh_reader() -> Reader
-    ensures { λ r. ⌜ r ≡ freshIn off ⌝ }
+pub extern "C" fn delampuk_start_reader(state: &mut Reader)
+    ensures { λ _. ⌜ now (state .exit) ≡ freshIn off ⌝ }
 {
-    track::fresh()
+    *state = track::fresh();
 }
 
-// One block, read by value: the reader's state goes in and comes back.
+// One block read: the state is advanced, or untouched after a refusal.
 #[no_mangle]
 pub extern "C" fn delampuk_read(
-    state: Reader,
+    state: &mut Reader,
     line: &[u8],
     voice: &mut [u8],
     lsd: &mut [u8],
-) -> ReadOutcome
-    ensures { λ r. ⌜ ReadTold state (now (line .entry)) (each (now (voice .entry)) (now (lsd .entry))) r (each (now (voice .exit)) (now (lsd .exit))) ⌝ }
+) -> ReadAnswer
+    ensures { λ r. ⌜ (r ≡ readTaken (now (state .entry)) (now (line .entry)) (each (now (voice .entry)) (now (lsd .entry))) .answer)
+        × (now (state .exit) ≡ readTaken (now (state .entry)) (now (line .entry)) (each (now (voice .entry)) (now (lsd .entry))) .state)
+        × (each (now (voice .exit)) (now (lsd .exit)) ≡ buffersOf (now (state .entry)) (now (line .entry)) (each (now (voice .entry)) (now (lsd .entry)))) ⌝ }
 {
-    let outcome = reader::read(state, line, voice, lsd);
-    let next = outcome.state;
-    let answer = outcome.answer;
-    let told = answers::read_answer(answer);
-    ReadOutcome {
-        state: next,
-        answer: told,
-    }
+    let stepped = calls::read_step(*state, line, voice, lsd);
+    *state = stepped.state;
+    stepped.answer
 }
+
+// What a reader has in force and due, and its place.
+#[no_mangle]
+pub extern "C" fn delampuk_tell_reader(state: &Reader) -> ReaderTold
+    ensures { λ r. ⌜ r ≡ readerTold (now (state .entry)) ⌝ }
+{
+    asking::reader_told(*state)
+}
+
+// A reader's saved form, and a reader from one.
+#[no_mangle]
+pub extern "C" fn delampuk_save_reader(state: &Reader, saved: &mut [u8]) -> u8
+    ensures { λ r. ⌜ (r ≡ readerSaved (now (state .entry)) (now (saved .entry)))
+        × (now (saved .exit) ≡ readerKept (now (state .entry)) (now (saved .entry))) ⌝ }
+{
+    saving::save_reader(*state, saved)
+}
+
+#[no_mangle]
+pub extern "C" fn delampuk_load_reader(state: &mut Reader, saved: &[u8]) -> u8
+    ensures { λ r. ⌜ (r ≡ readerLoaded (now (state .entry)) (now (saved .entry)) .answer)
+        × (now (state .exit) ≡ readerLoaded (now (state .entry)) (now (saved .entry)) .state) ⌝ }
+{
+    let stepped = saving::load_reader(*state, saved);
+    *state = stepped.state;
+    stepped.answer
+}
+
+// ---- recordings
 
 // The smallest place from the start on where alignment stands.
 #[no_mangle]
@@ -210,43 +190,48 @@ pub extern "C" fn delampuk_search(recording: &[u8], start: usize) -> SearchAnswe
     answers::search_answer(search::search(recording, start))
 }
 
-// A mark that stays set keeps its number, so that a refused step gives it back as it was.
-fn mark_after(mark: u8, set: bool) -> u8
-    ensures { λ r. ⌜ r ≡ markAfter mark set ⌝ }
+// A walk that begins at a place, with a fresh reader.
+#[no_mangle]
+pub extern "C" fn delampuk_start_walk(state: &mut WalkState, place: usize)
+    ensures { λ _. ⌜ now (state .exit) ≡ walkFrom place ⌝ }
 {
-    if set {
-        if mark == 0 {
-            return 1;
-        }
-        return mark;
-    }
-    0
+    *state = calls::walk_from(place);
 }
 
-// One step of a walk that stands at a place of a recording, the block before it lost or not.
+// One step of a walk: it is moved on, or untouched after a refusal.
 #[no_mangle]
 pub extern "C" fn delampuk_step(
+    state: &mut WalkState,
     recording: &[u8],
-    place: usize,
-    lost: u8,
-    state: Reader,
     voice: &mut [u8],
     lsd: &mut [u8],
-) -> StepOutcome
-    ensures { λ r. ⌜ StepTold (now (recording .entry)) place lost state (each (now (voice .entry)) (now (lsd .entry))) r (each (now (voice .exit)) (now (lsd .exit))) ⌝ }
+) -> StepAnswer
+    ensures { λ r. ⌜ (r ≡ stepTaken (now (state .entry)) (now (recording .entry)) (each (now (voice .entry)) (now (lsd .entry))) .answer)
+        × (now (state .exit) ≡ stepTaken (now (state .entry)) (now (recording .entry)) (each (now (voice .entry)) (now (lsd .entry))) .state)
+        × (each (now (voice .exit)) (now (lsd .exit)) ≡ stepBuffers (now (state .entry)) (now (recording .entry)) (each (now (voice .entry)) (now (lsd .entry)))) ⌝ }
 {
-    let stepped = walk::step_from(recording, place, is_on(lost), state, voice, lsd);
-    let next = stepped.reader;
-    let stands = stepped.place;
-    let mark = mark_after(lost, stepped.lost);
-    let answer = stepped.answer;
-    let told = answers::step_answer(answer);
-    StepOutcome {
-        reader: next,
-        lost: mark,
-        place: stands,
-        answer: told,
-    }
+    let stepped = calls::walk_step(*state, recording, voice, lsd);
+    *state = stepped.state;
+    stepped.answer
+}
+
+// A walk's saved form, and a walk from one. The recording is not among it.
+#[no_mangle]
+pub extern "C" fn delampuk_save_walk(state: &WalkState, saved: &mut [u8]) -> u8
+    ensures { λ r. ⌜ (r ≡ walkSaved (now (state .entry)) (now (saved .entry)))
+        × (now (saved .exit) ≡ walkKept (now (state .entry)) (now (saved .entry))) ⌝ }
+{
+    saving::save_walk(*state, saved)
+}
+
+#[no_mangle]
+pub extern "C" fn delampuk_load_walk(state: &mut WalkState, saved: &[u8]) -> u8
+    ensures { λ r. ⌜ (r ≡ walkLoaded (now (state .entry)) (now (saved .entry)) .answer)
+        × (now (state .exit) ≡ walkLoaded (now (state .entry)) (now (saved .entry)) .state) ⌝ }
+{
+    let stepped = saving::load_walk(*state, saved);
+    *state = stepped.state;
+    stepped.answer
 }
 
 // The listing of a recording as text, and how long it is: the text's length and one more where it does not fit, and then what fits is
@@ -256,4 +241,22 @@ pub extern "C" fn delampuk_list(recording: &[u8], text: &mut [u8]) -> usize
     ensures { λ r. ⌜ Written 0 (listingOf (now (recording .entry))) (now (text .entry)) r (now (text .exit)) ⌝ }
 {
     scribe::list(recording, text)
+}
+
+// ---- what a driver can ask
+
+// How many octets of a voice buffer and how many bits of a data buffer count under a mode.
+#[no_mangle]
+pub extern "C" fn delampuk_count(mode: Mode) -> Counts
+    ensures { λ r. ⌜ r ≡ countsOf mode ⌝ }
+{
+    asking::count_of(mode)
+}
+
+// What a code is, and the places that it gives to a stream.
+#[no_mangle]
+pub extern "C" fn delampuk_explain(code: u8) -> CodeTold
+    ensures { λ r. ⌜ r ≡ codeTold code ⌝ }
+{
+    asking::code_told(code)
 }

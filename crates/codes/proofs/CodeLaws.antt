@@ -5,7 +5,7 @@ use Prim.Native.Nat.{ℕ, _/_, _<_}
 use native.Mathlib.Omega.{arith}
 use lib.Dec.{eqb}
 use borrow.Author.Tests.{eqb-true, eqb-false, ne-eqb}
-use Rattle.bits.proofs.Every.{and-left, and-right}
+use Rattle.bits.proofs.BoolLaws.{and-left, and-right}
 use Rattle.modes.specs.Table.{listedAudio, listedLsd}
 use Rattle.codes.specs.Codes.{attribute, value, audioAttribute, lsdAttribute, neutral}
 use Rattle.codes.specs.Commands.{commandOf}

@@ -4,7 +4,7 @@ use mathlib.Core.Bool.{true, false, _&&_, _||_, or-true}
 use Prim.Native.Nat.{ℕ, _<_}
 use lib.Dec.{eqb, leb}
 use borrow.Author.Tests.{eq-eqb}
-use Rattle.bits.proofs.Every.{and-left, and-right, or-left-false, or-right-false}
+use Rattle.bits.proofs.BoolLaws.{and-left, and-right, or-left-false, or-right-false}
 use Rattle.buffers.specs.Buffers.{Each}
 use Rattle.modes.specs.Owners.{within, overlaps}
 use Rattle.modes.specs.Modes.{audioOff, withAudio, withLsd, inRange}

@@ -1,6 +1,7 @@
 -- Document 01, 'Sending a block': which word goes, and by which rule.
 use mathlib.Core.Bool.{Bool, not, cond, _&&_}
-use Rattle.control.specs.State.{itemDue, sounding, choosing}
+use Rattle.slots.specs.Slots.{isItem}
+use Rattle.control.specs.State.{wordDue, sounding, choosing}
 use Rattle.control.specs.declared.Sender.{Sender}
 use Rattle.control.specs.declared.Rule.{Rule}
 use Rattle.control.specs.declared.Rule.the-variants.{AsItem, MuteOff, Release, Offered}
@@ -9,7 +10,7 @@ use Rattle.control.specs.declared.Rule.the-variants.{AsItem, MuteOff, Re
 -- with mute clear, in force off and chosen not, the chosen command goes. In all others the offered code goes (DECISIONS S1, S2)
 unfoldable pub ruleOf : Sender → Bool → Rule
 ruleOf s mute =
-    cond (itemDue s) AsItem
+    cond (isItem (wordDue s)) AsItem
     (cond (mute && sounding s) MuteOff
     (cond (not mute && not (sounding s) && choosing s) Release
     Offered))

@@ -9,13 +9,9 @@ use Rattle.slots.specs.declared.Due.{Due}
 use Rattle.slots.specs.declared.Due.the-variants.{Plain, AnItem}
 use Rattle.control.specs.declared.Sender.{Sender}
 
--- an item is due; every number but 0 says so
-abbrev pub itemDue : Sender → Bool
-itemDue s = not (eqb (s .due) 0)
-
--- the word that is due: an item, or a plain word. A sender opens no message
+-- the word that is due: an item where the number is not 0, else a plain word (DECISIONS F46). A sender opens no message
 abbrev pub wordDue : Sender → Due
-wordDue s = cond (itemDue s) AnItem Plain
+wordDue s = cond (not (eqb (s .due) 0)) AnItem Plain
 
 -- some audio is in force; some audio is chosen
 abbrev pub sounding : Sender → Bool

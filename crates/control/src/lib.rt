@@ -5,14 +5,15 @@ ghost use Rattle.modes.specs.Modes.{audioOff};
 ghost use Rattle.buffers.specs.Buffers.{each};
 ghost use Rattle.control.specs.State.{chosenMode, stateInRange, freshWith};
 ghost use Rattle.control.specs.Rules.{ruleOf};
-ghost use Rattle.control.specs.Plans.{dueNumber, planBy};
+ghost use Rattle.control.specs.Plans.{planBy};
 ghost use Rattle.control.specs.Refusals.{clashes, goesPlain, goesAsItem, rulingOf};
 ghost use Rattle.control.specs.Decisions.{nextBy, decisionOf};
-use codes::Opening;
+use bas::Word;
 use modes::BlockNumber;
 use modes::Mode;
 use refusals::Refusal;
 use refusals::Ruling;
+use slots::Due;
 
 // What a sender keeps between blocks, laid out as in C for a card driver. The chosen audio stands apart from the audio in force; `due` is
 // 0, or an item is due (DECISIONS F46).
@@ -168,31 +169,21 @@ fn ruling_of(s: Sender, c: Call, line: usize, voice: usize, lsd: usize) -> Rulin
     refusals::judge(seven, Refusal::Overlap, plain & clash(s, code))
 }
 
-fn due_number(opening: Opening) -> u8
-    ensures { λ r. ⌜ r ≡ dueNumber opening ⌝ }
-{
-    match opening {
-        Opening::Nothing => 0,
-        Opening::Item => 1,
-        Opening::Message => 0,
-    }
-}
-
 // What the offered code leaves, where it goes as a command.
 fn offered_plan(s: Sender, code: u8) -> Plan
     ensures { λ r. ⌜ r ≡ planBy Rule.Offered s code ⌝ }
 {
     let mode = s.mode;
     let command = codes::command_of(code);
-    let picked = codes::offer(command, chosen_mode(s));
+    let offered = codes::offer(command, chosen_mode(s));
     let next = codes::offer(command, mode);
-    let due = due_number(codes::opening_of(code));
+    let slot = slots::slot_of(slots::due_after(Due::Plain, Word::Code(code)));
     Plan {
         word: code,
         answer: Answer::Sent,
-        chosen: picked.audio,
+        chosen: offered.audio,
         mode: next,
-        due: due,
+        due: slot.kind,
     }
 }
 
@@ -249,7 +240,7 @@ fn next_by(p: Plan, s: Sender) -> Sender
     }
 }
 
-// What is decided of a call with a line block and buffers of these lengths.
+// What is decided of a call with a line block and buffers of these lengths (DECISIONS F45).
 pub fn decide(s: Sender, c: Call, line: usize, voice: usize, lsd: usize) -> Decision
     ensures { λ r. ⌜ r ≡ decisionOf s c line (each voice lsd) ⌝ }
 {

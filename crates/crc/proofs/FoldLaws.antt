@@ -15,7 +15,7 @@ use lib.Seq.{take-add, take-all, drop-drop, length-take-le}
 use Rattle.bits.specs.Bits.{lowBits, bitsOf, numberAt, eightAt, zeros, xors}
 use Rattle.bits.specs.Remainder.{continued, remainder}
 use Rattle.crc.specs.Crc.{crc4Generator, summed, summedFrom}
-use Rattle.bits.proofs.BitLaws.{xors-append, length-xors, length-lowBits, lowBits-zero, lowBits-xor, lowBits-back, bitsOf-append, length-bitsOf}
+use Rattle.bits.proofs.BitLaws.{xors-append, length-xors, length-lowBits, lowBits-zero, lowBits-xor, lowBits-back, bitsOf-append, length-bitsOf, without-sc}
 use Rattle.bits.proofs.RemainderLaws.{remainder-append, remainder-after-zeros, remainder-moved, Period}
 use Rattle.crc.proofs.CrcLaws.{summed-at}
 use Rattle.bits.proofs.EightLaws.{numberAt-lt, number-at}
@@ -176,7 +176,7 @@ with-c s i h l =
     let x = getD s (84 + i) 0 in
     let low : 84 ≤ 84 + i = omega arith in
     let high : 84 + i < 88 = omega arith in
-    let is : getD (summedFrom 0 s) (84 + i) 0 ≡ x / 2 * 2 = sym (summed-at s (84 + i) h) ∙ simp (le-leb _ _ low, lt-ltb _ _ high) in
+    let is : getD (summedFrom 0 s) (84 + i) 0 ≡ x / 2 * 2 = sym (summed-at s (84 + i) h) ∙ simp (le-leb _ _ low, lt-ltb _ _ high, without-sc) in
     and-high (x % 256) 7 1 ∙ omega (arith, is)
 
 pub summed-with-c : (s : List ℕ) → length s ≡ 160 → bitAnd (eightAt s 84) 0xFEFE_FEFE_FFFF_FFFF ≡ eightAt (summedFrom 0 s) 84

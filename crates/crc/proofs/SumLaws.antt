@@ -15,7 +15,7 @@ use Rattle.crc.specs.Crc.{crc4Generator, crc4Of, crc4From}
 use Rattle.bits.proofs.BitLaws.{xors-comm, xors-zeros, xors-append, length-lowBits, lowBits-mod, lowBits-zero, lowBits-append, lowBits-shifted, lowBits-xor, lowBits-back, number-bound, number-inj, bitsOf-append, bitsOf-one}
 use Rattle.bits.proofs.RemainderLaws.{length-continued, continued-append, remainder-append, Period, period-times, remainder-after-zeros, remainder-moved}
 use Rattle.crc.proofs.CrcLaws.{crc4From-zero, crc4From-append}
-use Rattle.bits.proofs.Every.{everyBelow, below}
+use Rattle.bits.proofs.BoolLaws.{everyBelow, below}
 
 -- ---- X^15 leaves 1: over fifteen zeros each of the sixteen remainders comes back
 comesBack : ℕ → Bool

@@ -66,7 +66,7 @@ pub firsts-all : (f : ℕ → ℕ) → firsts f 8 ≡ eights f
 unfolding eights
 firsts-all f = omega arith
 
--- ---- fields of a stream in eight octets, so many bits up and the same bits below
+-- ---- fields of n bits each of a stream in eight octets, and the same moved `up` bits up with `below` under each
 pub lane-is : (n : ℕ) (l : List Bool) → eights (fieldOf (number (nexts (8 * n) l)) n) ≡ eights (fieldsOf n l)
 unfolding fieldsOf
 lane-is n l = eights-each (fieldOf (number (nexts (8 * n) l)) n) (fieldsOf n l) (λ k h. field-nexts n k l h)

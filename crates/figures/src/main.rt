@@ -188,10 +188,8 @@ fn overlap(audio: u8, lsd: u8) {
     decimal(audio as u64);
     text(b"] with data [");
     decimal(lsd as u64);
-    if modes::overlap(Mode {
-        audio: audio,
-        lsd: lsd,
-    }) {
+    let mode = modes::with_lsd(modes::with_audio(modes::off(), audio), lsd);
+    if modes::overlap(mode) {
         text(b"] overlap\n");
     } else {
         text(b"] accepted\n");
@@ -200,7 +198,7 @@ fn overlap(audio: u8, lsd: u8) {
 
 // Data [v]: bits a frame, and bits a second at 100 frames.
 fn rate(v: u8) {
-    let mode = Mode { audio: 31, lsd: v };
+    let mode = modes::with_lsd(modes::off(), v);
     let bits = modes::bits_per_frame(mode, Owner::Lsd);
     text(b"data [");
     decimal(v as u64);
@@ -293,5 +291,5 @@ fn main() {
     text(b"table 2\n");
     line_places();
     text(b"a frame of audio [20] with data [6]\n");
-    picture(Mode { audio: 20, lsd: 6 });
+    picture(modes::with_lsd(modes::with_audio(modes::off(), 20), 6));
 }

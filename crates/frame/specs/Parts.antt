@@ -15,7 +15,7 @@ use Rattle.places.specs.declared.Layout.{Layout}
 unfoldable pub wordAt : (ℕ → ℕ) → ℕ → ℕ
 wordAt rule k = eights (λ (j : ℕ). rule (8 * k + j))
 
--- octet o + 1 of a frame in two parts: voice and nobody's ones, and data's columns with the SC bit
+-- octet o + 1 of a frame in two parts: voice and nobody's ones, and data's columns with the SC bit below them (DECISIONS F53)
 unfoldable pub headAt : Layout → List Bool → ℕ → ℕ
 headAt p voice o =
     let ones = 2 ^ (7 - (p .width + p .columns)) in

@@ -136,17 +136,11 @@ fn print_octets(mode: Mode, label: Label, octets: &[u8]) {
 }
 
 fn voice_mode(audio: u8) -> Mode {
-    Mode {
-        audio: audio,
-        lsd: 0,
-    }
+    modes::with_audio(modes::off(), audio)
 }
 
 fn data_mode(lsd: u8) -> Mode {
-    Mode {
-        audio: 31,
-        lsd: lsd,
-    }
+    modes::with_lsd(modes::off(), lsd)
 }
 
 fn data_layouts() {
@@ -268,14 +262,7 @@ fn tallied(t: Tally, mode: Mode, mute: bool) -> Tally {
 fn each_data(t: Tally, audio: u8, mute: bool) -> Tally {
     let mut next = t;
     for lsd in 0u8..32 {
-        next = tallied(
-            next,
-            Mode {
-                audio: audio,
-                lsd: lsd,
-            },
-            mute,
-        );
+        next = tallied(next, modes::with_lsd(voice_mode(audio), lsd), mute);
     }
     next
 }

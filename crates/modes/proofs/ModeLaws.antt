@@ -6,7 +6,7 @@ use Prim.Native.Nat.{ℕ, _+_, _<_}
 use native.Mathlib.Omega.{arith}
 use lib.Dec.{eqb, leb, ltb}
 use borrow.Author.Tests.{eqb-true, eq-eqb, not-true, ltb-true, ltb-false, le-leb}
-use Rattle.bits.proofs.Every.{and-left, and-right, and-make}
+use Rattle.bits.proofs.BoolLaws.{and-left, and-right, and-make}
 use Rattle.modes.specs.Numbers.{following}
 use Rattle.modes.specs.Table.{audioTable, lsdTable, beside, audioPlaces, lsdPlaces, listedAudio, listedLsd}
 use Rattle.modes.specs.Owners.{within, holds, heldBy, some, clash, overlaps}

@@ -8,10 +8,10 @@ use native.Mathlib.Omega.{arith}
 use lib.Dec.{eqb, leb}
 use borrow.Author.Tests.{leb-true, leb-false, eqb-true, le-leb, ne-eqb}
 use Rattle.bits.specs.Bits.{digit}
-use Rattle.bits.proofs.Every.{and-left, and-right, and-make}
+use Rattle.bits.proofs.BoolLaws.{and-left, and-right, and-make}
 use Rattle.modes.specs.Numbers.{octet}
 use Rattle.modes.specs.Table.{audioPlaces, lsdPlaces}
-use Rattle.modes.specs.Owners.{within, rank, sameOwner, holds, heldBy, some, sum, clash, overlaps, bitsPerFrame}
+use Rattle.modes.specs.Owners.{within, ownerNumber, sameOwner, holds, heldBy, some, sum, clash, overlaps, bitsPerFrame}
 use Rattle.modes.specs.declared.Mode.{Mode}
 use Rattle.modes.specs.declared.Places.{Places}
 use Rattle.modes.specs.declared.Owner.{Owner}
@@ -19,21 +19,21 @@ use Rattle.modes.specs.declared.Owner.the-variants.{Service, Voice, Lsd,
 use Rattle.modes.proofs.TableLaws.{Fit, audio-fit, lsd-fit, audio-shape, lsd-shape}
 
 -- ---- an owner is its number
-ranked : ℕ → Owner
-ranked zero = Service
-ranked (suc zero) = Voice
-ranked (suc (suc zero)) = Lsd
-ranked (suc (suc (suc n))) = Nobody
+ownerAt : ℕ → Owner
+ownerAt zero = Service
+ownerAt (suc zero) = Voice
+ownerAt (suc (suc zero)) = Lsd
+ownerAt (suc (suc (suc n))) = Nobody
 
-ranked-rank : (o : Owner) → ranked (rank o) ≡ o
-unfolding ranked
-ranked-rank Service = refl
-ranked-rank Voice = refl
-ranked-rank Lsd = refl
-ranked-rank Nobody = refl
+owner-back : (o : Owner) → ownerAt (ownerNumber o) ≡ o
+unfolding ownerAt
+owner-back Service = refl
+owner-back Voice = refl
+owner-back Lsd = refl
+owner-back Nobody = refl
 
 pub same-owner : (o p : Owner) → sameOwner o p ≡ true → o ≡ p
-same-owner o p t = sym (ranked-rank o) ∙ ap ranked (eqb-true (rank o) (rank p) t) ∙ ranked-rank p
+same-owner o p t = sym (owner-back o) ∙ ap ownerAt (eqb-true (ownerNumber o) (ownerNumber p) t) ∙ owner-back p
 
 -- ---- some number of 1 to n
 some-at : (n : ℕ) (p : ℕ → Bool) (k : ℕ) → 1 ≤ k → k ≤ n → p k ≡ true → some n p ≡ true

@@ -1,12 +1,12 @@
 -- Laws of the table of places: each row's ranges lie in a frame, and past 31 no value is listed.
 use mathlib.Core.Path.{_≡_, refl, sym, ap, _∙_}
-use mathlib.Core.Bool.{Bool, true, false, not, xor, cond, _&&_}
+use mathlib.Core.Bool.{Bool, true, false, not, Bool·beq, cond, _&&_}
 use mathlib.Core.List.{List, [], _∷_}
 use Prim.Native.Nat.{ℕ, _+_, _≤_, _<_}
 use native.Mathlib.Omega.{arith}
 use lib.Dec.{eqb, leb, ltb}
 use borrow.Author.Tests.{leb-true, ltb-true, eqb-true, ne-eqb, lt-ltb, le-ltb}
-use Rattle.bits.proofs.Every.{and-left, and-right, everyBelow, below}
+use Rattle.bits.proofs.BoolLaws.{and-left, and-right, same-bool, everyBelow, below}
 use Rattle.modes.specs.Numbers.{octet}
 use Rattle.modes.specs.Table.{bitsAndSc, octetBitsTo, octetBitsFrom, scOctets, notListed, audioTable, lsdTable, beside, audioPlaces, lsdPlaces}
 use Rattle.modes.specs.Owners.{heldBy}
@@ -52,25 +52,15 @@ unfolding lsdPlaces lsdTable
 lsd-past v h = beside-past 15 lsdTable (notListed (octetBitsFrom 8)) v refl h
 
 -- ---- the source's two tables
-sameBool : Bool → Bool → Bool
-sameBool a b = not (xor a b)
-
-same-bool : (a b : Bool) → sameBool a b ≡ true → a ≡ b
-unfolding sameBool xor
-same-bool true true e = refl
-same-bool true false e = sym e
-same-bool false true e = e
-same-bool false false e = refl
-
 same : Places → Places → Bool
 same p q =
-    sameBool (p .listed) (q .listed)
+    Bool·beq (p .listed) (q .listed)
     && (eqb (p .from) (q .from) && (eqb (p .to) (q .to) && (eqb (p .first .0) (q .first .0) && eqb (p .last .0) (q .last .0))))
 
 same-places : (p q : Places) → same p q ≡ true → p ≡ q
 unfolding same
 same-places p q t =
-    let a = sameBool (p .listed) (q .listed) in
+    let a = Bool·beq (p .listed) (q .listed) in
     let b = eqb (p .from) (q .from) in
     let c = eqb (p .to) (q .to) in
     let d = eqb (p .first .0) (q .first .0) in
@@ -96,7 +86,7 @@ audioRight : ℕ → Bool
 audioRight v = same (audioSaid (audioEntry v)) (audioPlaces v)
 
 all-audio : everyBelow 32 audioRight ≡ true
-unfolding audioRight same sameBool xor audioEntry audioPlaces audioTable beside
+unfolding audioRight same audioEntry audioPlaces audioTable beside
 all-audio = refl
 
 audio-said : (v : ℕ) → v < 32 → audioSaid (audioEntry v) ≡ audioPlaces v
@@ -119,7 +109,7 @@ lsdRight : ℕ → Bool
 lsdRight v = same (bitsAndSc ((lsdPlaces v) .from) 7 ((lsdPlaces v) .first) ((lsdPlaces v) .last)) (lsdPlaces v)
 
 all-lsd : everyBelow 15 lsdRight ≡ true
-unfolding lsdRight same sameBool xor lsdPlaces lsdTable beside
+unfolding lsdRight same lsdPlaces lsdTable beside
 all-lsd = refl
 
 pub lsd-said : (v : ℕ) → v < 15 → bitsAndSc ((lsdPlaces v) .from) 7 ((lsdPlaces v) .first) ((lsdPlaces v) .last) ≡ lsdPlaces v

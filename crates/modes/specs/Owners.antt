@@ -17,15 +17,15 @@ abbrev pub within : ℕ → ℕ → ℕ → Bool
 within a b n = leb a n && leb n b
 
 -- each owner by a number of its own
-abbrev pub rank : Owner → ℕ
-rank Service = 0
-rank Voice = 1
-rank Lsd = 2
-rank Nobody = 3
+abbrev pub ownerNumber : Owner → ℕ
+ownerNumber Service = 0
+ownerNumber Voice = 1
+ownerNumber Lsd = 2
+ownerNumber Nobody = 3
 
 -- the two are one owner
 abbrev pub sameOwner : Owner → Owner → Bool
-sameOwner o p = eqb (rank o) (rank p)
+sameOwner o p = eqb (ownerNumber o) (ownerNumber p)
 
 -- the owners that are streams
 abbrev pub streams : List Owner

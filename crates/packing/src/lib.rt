@@ -169,7 +169,7 @@ pub fn sort_run(
     at
 }
 
-// The last bit of each of octets from + 1 to `to` of a block, one by one. The answer is how many bits the buffer then has.
+// The last bit of each of octets from + 1 to `to` of a block, its SC bit, one by one (DECISIONS F53). The answer is how many bits the buffer then has.
 pub fn sort_bits(line: &[u8], from: usize, to: usize, out: &mut [u8], start: usize) -> usize
     requires { ⌜ (from ≤ to) × (to ≤ length (now line)) × (to ≤ length (now out) * 8) × (to ≤ 160) × (start ≤ from) ⌝ }
     ensures { λ r. ⌜ (r ≤ to) × ((bs : List Bool) → Filled bs start (now (out .entry)) → Filled (bs ++ runs 7 1 (now (line .entry)) from (to - from)) r (now (out .exit))) ⌝ }

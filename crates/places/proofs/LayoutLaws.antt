@@ -9,7 +9,7 @@ use native.Mathlib.Omega.{arith}
 use lib.Dec.{eqb, leb, lit<}
 use borrow.Author.Tests.{leb-true, leb-false, eqb-true, le-leb, ne-eqb}
 use lib.ListN.{length, replicate, length-append, length-replicate}
-use Rattle.bits.proofs.Every.{and-left, and-right, everyBelow, below}
+use Rattle.bits.proofs.BoolLaws.{and-left, and-right, everyBelow, below}
 use Rattle.modes.specs.Numbers.{octet}
 use Rattle.modes.specs.Table.{octetBitsFrom, notListed, lsdTable, lsdPlaces}
 use Rattle.modes.specs.Owners.{within, sameOwner, holds, heldBy, ownerOf}

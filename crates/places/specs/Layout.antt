@@ -26,6 +26,7 @@ columnsBy p = replicate (p .width) Voice ++ replicate (7 - (p .width + p .column
 unfoldable pub channelBy : Layout → ℕ → Owner
 channelBy p octet = cond (leb octet 16) Service (cond (leb (p .first) octet) (cond (leb octet (p .last)) Lsd Nobody) Nobody)
 
+-- the last of a row is the SC bit (DECISIONS F53)
 unfoldable pub rowBy : Layout → ℕ → List Owner
 rowBy p octet = columnsBy p ++ channelBy p octet ∷ []
 

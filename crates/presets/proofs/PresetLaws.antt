@@ -26,4 +26,6 @@ preset-back s r =
     let ea : audioIn (presetOf a d) ≡ a = omega arith in
     let ed : lsdIn (presetOf a d) ≡ d = omega arith in
     let ez : presetOf a d % 64 ≡ 0 = omega arith in
-    rw (ea, ed, eq-eqb _ 0 ez, in-range (mode a d) (ranged-by (chosenMode s) (mode a d) refl refl (kept s r .ranges)))
+    let valid : isPreset (presetOf a d) ≡ true =
+    rw (ea, ed, eq-eqb _ 0 ez, in-range (mode a d) (ranged-by (chosenMode s) (mode a d) refl refl (kept s r .ranges))) in
+    rw (valid, ea, ed)

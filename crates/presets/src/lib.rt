@@ -2,8 +2,8 @@
 ghost use mathlib.Core.Path.{_≡_};
 ghost use Rattle.presets.specs.Presets.{isPreset, presetRead, presetWritten};
 use control::Sender;
-use modes::Mode;
 use refusals::Refusal;
+use refusals::Ruling;
 
 pub enum PresetAnswer {
     Read,
@@ -27,11 +27,8 @@ fn is_preset(bits: u16) -> bool
 {
     let audio = (bits / 2048) as u8;
     let lsd = (bits / 64 % 32) as u8;
-    modes::in_range(Mode {
-        audio: audio,
-        lsd: lsd,
-    })
-        & (bits % 64 == 0)
+    let mode = modes::with_lsd(modes::with_audio(modes::off(), audio), lsd);
+    modes::in_range(mode) & (bits % 64 == 0)
 }
 
 // A preset's state to start from, and the data code to offer.
@@ -42,17 +39,18 @@ pub fn read_preset(bits: u16) -> PresetRead
     let lsd = (bits / 64 % 32) as u8;
     let state = control::fresh_with(audio);
     let none = control::fresh_with(31);
-    if is_preset(bits) {
-        return PresetRead {
+    let ruling = refusals::judge(Ruling::Accept, Refusal::NotAPreset, !is_preset(bits));
+    match ruling {
+        Ruling::Refuse(why) => PresetRead {
+            answer: PresetAnswer::Unread(why),
+            state: none,
+            offer: 96,
+        },
+        Ruling::Accept => PresetRead {
             answer: PresetAnswer::Read,
             state: state,
             offer: 96 + lsd,
-        };
-    }
-    PresetRead {
-        answer: PresetAnswer::Unread(Refusal::NotAPreset),
-        state: none,
-        offer: 96,
+        },
     }
 }
 
@@ -62,8 +60,9 @@ pub fn write_preset(s: Sender) -> PresetWritten
 {
     let chosen = s.chosen;
     let lsd = s.mode.lsd;
-    if control::in_range(s) {
-        return PresetWritten::Bits((chosen as u16) * 2048 + (lsd as u16) * 64);
+    let ruling = refusals::judge(Ruling::Accept, Refusal::BadState, !control::in_range(s));
+    match ruling {
+        Ruling::Refuse(why) => PresetWritten::Unwritten(why),
+        Ruling::Accept => PresetWritten::Bits((chosen as u16) * 2048 + (lsd as u16) * 64),
     }
-    PresetWritten::Unwritten(Refusal::BadState)
 }

@@ -5,7 +5,7 @@ use mathlib.Core.List.{List, [], _∷_}
 use Prim.Native.Nat.{ℕ, _<_}
 use native.Mathlib.Omega.{arith}
 use lib.ListN.{replicate}
-use Rattle.bits.specs.Bits.{odd, xors}
+use Rattle.bits.specs.Bits.{odd, lowBits, scBit, xors}
 use Rattle.crc.specs.Crc.{blockCrcOf}
 use Rattle.bas.specs.Reading.{weight, readingOf}
 use Rattle.bas.specs.declared.Word.the-variants.{Code}
@@ -13,6 +13,7 @@ use Rattle.modes.specs.Numbers.{following}
 use Rattle.modes.specs.Table.{audioTable, lsdTable, beside, audioPlaces, lsdPlaces}
 use Rattle.modes.specs.Owners.{holds, heldBy, some, clash, overlaps}
 use Rattle.modes.specs.Modes.{audioOff, mode, inRange}
+use Rattle.slots.specs.Slots.{dueAfter}
 use Rattle.codes.specs.Carried.{carried, senderCarries, openingOf}
 use Rattle.codes.specs.Commands.{commandOf, offered}
 use Rattle.service.specs.Channel.{channelBits, alignmentBits, wrongBits, basWord}
@@ -71,7 +72,7 @@ second =
     }
 
 second-found : after fresh (offer 0x80) ≡ second
-unfolding second turned outcomeOf decisionOf rulingOf ruleOf planBy senderCarries carried clashes following commandOf offered openingOf
+unfolding second turned outcomeOf decisionOf rulingOf ruleOf planBy senderCarries carried clashes following commandOf offered openingOf dueAfter
 second-found = rw (fresh-range, after)
 
 second-range : stateInRange second ≡ true
@@ -110,7 +111,7 @@ two-codes e = let same : _≡_ {A = ℕ} 0x81 0x80 = cc in omega arith
 
 -- an empty line has five wrong alignment bits
 empty-wrong : wrongBits (replicate lineOctets 0) ≡ 5
-unfolding wrongBits alignmentBits channelBits odd xors xor weight
+unfolding wrongBits alignmentBits channelBits scBit lowBits odd xors xor weight
 empty-wrong = refl
 
 -- ---- any program that meets the contract

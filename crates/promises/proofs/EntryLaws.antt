@@ -6,6 +6,8 @@ use mathlib.Core.Logic.{_⊎_, inl, inr}
 use Prim.Native.Nat.{ℕ}
 use native.Mathlib.Omega.{arith}
 use lib.Dec.{eqb}
+use borrow.Author.Tests.{ne-eqb}
+use Rattle.track.specs.declared.Reader.{Reader}
 use denote.Ref.{now}
 use Rattle.text.proofs.OverLaws.{written-fits, written-cut}
 use Rattle.refusals.proofs.RowLaws.{number-within, numbered}
@@ -26,19 +28,21 @@ use Rattle.recording.specs.declared.Answer as walked
 use Rattle.recording.proofs.StepLaws.{look-step}
 use Rattle.walk.specs.declared.Walk.{Walk}
 use Rattle.walk.specs.declared.Onward.{Onward}
-use Rattle.lines.specs.Lines.{numberLine}
+use Rattle.wording.specs.Lines.{numberLine}
 use Rattle.scribe.specs.Listing.{listingBy, listingOf}
 use Rattle.scribe.proofs.ListingLaws.{listing-ends}
-use Rattle.card.specs.Sending.{on}
-use Rattle.card.specs.Sending as card-sends
-use Rattle.card.specs.Walking.{markAfter}
 use Rattle.answers.specs.declared.SendAnswer.{SendAnswer}
-use Rattle.card.specs.declared.ReadOutcome.{ReadOutcome}
+use Rattle.answers.specs.declared.ReadAnswer.{ReadAnswer}
 use Rattle.answers.specs.declared.SearchAnswer.{SearchAnswer}
-use Rattle.card.specs.declared.StepOutcome.{StepOutcome}
-use Rattle.card.specs.declared.PresetOutcome.{PresetOutcome}
-use Rattle.card.specs.declared.PresetBits.{PresetBits}
-use Rattle.card.proofs.ReadLaws.{mark-still}
+use Rattle.answers.specs.declared.StepAnswer.{StepAnswer}
+use Rattle.answers.specs.declared.PresetAnswer.{PresetAnswer}
+use Rattle.answers.specs.declared.PresetBits.{PresetBits}
+use Rattle.presets.specs.Presets.{presetRead, presetNumber}
+use Rattle.calls.specs.Sending.{on}
+use Rattle.calls.specs.Sending as call-sends
+use Rattle.calls.specs.Walking.{markAfter}
+use Rattle.calls.specs.declared.WalkState.{WalkState}
+use Rattle.calls.proofs.ReadLaws.{mark-still}
 use Rattle.buffers.specs.Lengths.{zeroed}
 use Rattle.promises.specs.Session.{Turn, turned}
 use Rattle.promises.specs.Demand1.{Row, first, Refuses, held, searchingRows}
@@ -116,7 +120,7 @@ held-or-sent s x none = go (turn-cases s x)
     go (inr (rule, w)) = ap sender-list.kindOf (answered s x rule w) ∙ kind (held s (x .call))
 
 pub sending-in-C : SendingInC
-unfolding card-sends.sent turned
+unfolding call-sends.sent turned
 sending-in-C s mute code a e t b line r next l (er, en, el) =
     let x : Turn = record { call = callInC mute code a e t; lent = b; line = line } in
     let number = ap (λ (q : SendAnswer). q .number) er in
@@ -129,13 +133,11 @@ sending-in-C s mute code a e t b line r next l (er, en, el) =
     )
 
 pub reading-in-C : ReadingInC
-reading-in-C s line b r out (er, eb) =
-    let number = ap (λ (q : ReadOutcome). q .answer .number) er in
+reading-in-C s line b r next out (er, en, eb) =
+    let number = ap (λ (q : ReadAnswer). q .number) er in
     record {
-      refuses =
-          refuses-as (reading-refuses s line b _ out (told s line b _ out refl eb)) number
-          (λ k. (ap (λ (q : ReadOutcome). q .state) er ∙ k .0, k .1));
-      told = tells-as (r .answer .kind) 1 (ap (λ (q : ReadOutcome). q .answer .kind) er) number (kind-read ((reading.outcomeOf s line b) .answer));
+      refuses = refuses-as (reading-refuses s line b _ out (told s line b _ out refl eb)) number (λ k. (en ∙ k .0, k .1));
+      told = tells-as (r .kind) 1 (ap (λ (q : ReadAnswer). q .kind) er) number (kind-read ((reading.outcomeOf s line b) .answer));
     }
 
 -- an answer without a number is the place
@@ -150,24 +152,33 @@ searching-in-C recording start r e =
       λ z. place-told (searchOf recording start) (sym number ∙ z) ∙ ap Found.Place (sym (ap (λ (q : SearchAnswer). q .place) e)),
     )
 
+-- a walk whose reader, place and mark are as they were
+still : (w : WalkState) (s : Reader) (place : ℕ) (lost : Bool) → s ≡ w .reader → place ≡ w .place → lost ≡ on (w .lost)
+    → record { place = place; reader = s; lost = markAfter (w .lost) lost; reserved = w .reserved } ≡ w
+still w s place lost es ep el =
+    let mark : markAfter (w .lost) lost ≡ w .lost = ap (markAfter (w .lost)) el ∙ mark-still (w .lost) in
+    λ i. record { place = ep i; reader = es i; lost = mark i; reserved = w .reserved }
+
 pub stepping-in-C : SteppingInC
-stepping-in-C recording place mark s b r out (er, eb) =
-    let number = ap (λ (q : StepOutcome). q .answer .number) er in
-    let x = stepAt recording place (on mark) s b in
+stepping-in-C w recording b r next out (er, en, eb) =
+    let number = ap (λ (q : StepAnswer). q .number) er in
+    let x = stepAt recording (w .place) (on (w .lost)) (w .reader) b in
     record {
       refuses =
-          refuses-as (stepping-refuses recording place (on mark) s b x out refl eb) number
-          (λ k. (
-            ap (λ (q : StepOutcome). q .reader) er ∙ k .0,
-            ap (λ (q : StepOutcome). q .place) er ∙ k .1,
-            ap (λ (q : StepOutcome). q .lost) er ∙ ap (markAfter mark) (k .2) ∙ mark-still mark,
-            k .3,
-          ));
-      told = tells-as (r .answer .kind) 3 (ap (λ (q : StepOutcome). q .answer .kind) er) number (kind-walked (x .answer));
+          refuses-as (stepping-refuses recording (w .place) (on (w .lost)) (w .reader) b x out refl eb) number
+          (λ k. (en ∙ still w _ _ _ (k .0) (k .1) (k .2), k .3));
+      told = tells-as (r .kind) 3 (ap (λ (q : StepAnswer). q .kind) er) number (kind-walked (x .answer));
     }
 
 pub reading-preset-in-C : ReadingPresetInC
-reading-preset-in-C bits r e = refuses-as (reading-preset-refuses bits _ refl) (ap (λ (q : PresetOutcome). q .number) e) (λ k. k)
+reading-preset-in-C s bits r next (er, en) =
+    let t = reading-preset-refuses bits _ refl in
+    let number = ap (λ (q : PresetAnswer). q .number) er in
+    record {
+      ordered = t .ordered;
+      exact = number ∙ t .exact;
+      kept = λ h. en ∙ rw (ne-eqb (presetNumber ((presetRead bits) .answer)) 0 (λ z. h (number ∙ z)));
+    }
 
 pub writing-preset-in-C : WritingPresetInC
 writing-preset-in-C s r e = refuses-as (writing-preset-refuses s _ refl) (ap (λ (q : PresetBits). q .number) e) (λ k. k)

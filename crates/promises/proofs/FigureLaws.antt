@@ -1,7 +1,7 @@
 -- The starred figures of document 01, by computation.
 use mathlib.Core.Path.{refl}
 use mathlib.Core.Bool.{xor}
-use Rattle.bits.specs.Bits.{odd, lowBits, bitsOf, number, xors}
+use Rattle.bits.specs.Bits.{odd, lowBits, scBit, withoutSc, bitsOf, number, xors}
 use Rattle.bits.specs.Remainder.{scaled, fed, continued, remainder}
 use Rattle.crc.specs.Crc.{crc4Of, summed, summedFrom, blockCrcOf}
 use Rattle.bas.specs.Words.{checkOf, wordBits, evenOrder, oddOrder, lineOrder}
@@ -18,5 +18,5 @@ use Rattle.sender.specs.Step.{outcomeOf}
 use Rattle.promises.specs.Figures.{figures, AllAsSaid}
 
 pub figures-hold : AllAsSaid
-unfolding figures checkOf remainder continued fed scaled xors xor odd lowBits number wordBits evenOrder oddOrder lineOrder blockCrcOf summedFrom summed crc4Of bitsOf audioTable lsdTable beside audioPlaces lsdPlaces holds heldBy some clash overlaps carried senderCarries inRange stateInRange ruleOf planBy clashes rulingOf decisionOf outcomeOf
+unfolding figures checkOf remainder continued fed scaled xors xor odd lowBits scBit withoutSc number wordBits evenOrder oddOrder lineOrder blockCrcOf summedFrom summed crc4Of bitsOf audioTable lsdTable beside audioPlaces lsdPlaces holds heldBy some clash overlaps carried senderCarries inRange stateInRange ruleOf planBy clashes rulingOf decisionOf outcomeOf
 figures-hold = refl

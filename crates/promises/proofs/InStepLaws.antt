@@ -10,7 +10,7 @@ use lib.ListN.{length, take, replicate}
 use borrow.Author.Tests.{eqb-true, eq-eqb, ne-eqb, leb-true}
 use Rattle.bits.specs.Bits.{bitsOf, number, octets}
 use Rattle.crc.specs.Crc.{blockCrcOf}
-use Rattle.bits.proofs.Every.{and-left, and-right}
+use Rattle.bits.proofs.BoolLaws.{and-left, and-right}
 use Rattle.bits.proofs.PackLaws.{length-octets}
 use Rattle.bas.specs.Reading.{readingOf}
 use Rattle.bas.specs.declared.Word.the-variants.{Code}
@@ -24,7 +24,7 @@ use Rattle.modes.proofs.ModeLaws.{following-low}
 use Rattle.codes.specs.Codes.{neutral}
 use Rattle.codes.specs.Carried.{carried, readerCarries}
 use Rattle.codes.specs.Commands.{commandOf, offered, followed}
-use Rattle.slots.specs.Slots.{standing, dueAfterStanding, dueAfter, dueOf}
+use Rattle.slots.specs.Slots.{dueNow, dueAfterNow, dueAfter, dueOf}
 use Rattle.slots.specs.Readings.{codeReading, readingIn, obeyed}
 use Rattle.slots.specs.declared.Due.{Due}
 use Rattle.slots.specs.declared.Due.the-variants.{Plain, AnItem}
@@ -33,7 +33,7 @@ use Rattle.frame.specs.Block.{blockOf}
 use Rattle.service.specs.Channel.{wrongBits, oddFirst, cBits, basWord}
 use Rattle.frame.specs.declared.Header.{Header}
 use Rattle.round.proofs.HeaderLaws.{each8, oddBit, right-alignment, first-bit-back, remainder-back, code-back}
-use Rattle.control.specs.State.{itemDue, wordDue}
+use Rattle.control.specs.State.{wordDue}
 use Rattle.control.specs.Plans.{planBy}
 use Rattle.control.specs.Rules.{ruleOf}
 use Rattle.control.specs.Refusals.{goesPlain, goesAsItem}
@@ -66,10 +66,11 @@ use Rattle.places.proofs.CountLaws.{voice-twice, lsd-twice}
 use Rattle.round.proofs.RoundLaws.{voice-bits-back, lsd-back}
 use Rattle.buffers.specs.Buffers.{Each, Buffers, lengths}
 use Rattle.buffers.specs.Lengths.{lineOctets, streamOctets}
+use Rattle.buffers.proofs.LengthLaws.{same-each}
 use Rattle.promises.specs.Session.{Turn, after, Entry, log, blockSent, entryOf}
 use Rattle.promises.specs.Demand2.{wordTold, wordSent, Answered, LaidDown, commanded, GoesOn, BlockAfterBlock, OctetsLaidDown, KeptAsSent, Placed, InStep, Agrees, readerAfter, HandedBack, Back, AllBack, StaysInStep, MendsWords, JoinsAtNeutral}
 use Rattle.promises.proofs.TurnLaws.{Stayed, Went, turn-cases, log-stayed, log-went}
-use Rattle.promises.proofs.RuleLaws.{rule-due, rule-answer, rule-word, rule-chosen}
+use Rattle.promises.proofs.RuleLaws.{due-cases, due-by-rule, rule-answer, rule-word, rule-chosen}
 use Rattle.promises.proofs.WordLaws.{force-apart, Sends, word-small, plan-mode, mode-follows, due-after-same}
 
 -- ---- the eight blocks of a multiframe
@@ -104,21 +105,16 @@ unfolding number
 six-spelled f e = let h : f % 32 ≡ 5 = e in let g : f % 32 * 2 + 1 ≡ 11 = omega arith in eq-eqb (f % 32 * 2 + 1) 11 g
 
 -- ---- what is due at a sender stands as it is
-commanded-is : (item : Bool) (word : ℕ) (m : Mode) → cond item m (offered (commandOf word) m) ≡ commanded (cond item AnItem Plain) word m
-commanded-is true word m = refl
-commanded-is false word m = refl
+due-now : (s : Sender) → dueNow (wordDue s) ≡ wordDue s
+due-now = due-cases (λ d. dueNow d ≡ d) refl refl
 
-due-stands : (b : Bool) → standing (cond b AnItem Plain) ≡ cond b AnItem Plain
-due-stands true = refl
-due-stands false = refl
-
-reading-same : (d e : Due) (n : ℕ) → standing d ≡ e → standing e ≡ e → readingIn d (Code n) ≡ readingIn e (Code n)
+reading-same : (d e : Due) (n : ℕ) → dueNow d ≡ e → dueNow e ≡ e → readingIn d (Code n) ≡ readingIn e (Code n)
 unfolding readingIn
 reading-same d e n p q = ap (λ (x : Due). codeReading x n) (p ∙ sym q)
 
-after-same : (d e : Due) (n : ℕ) → standing d ≡ e → dueAfter d (Code n) ≡ dueAfterStanding e (Code n)
+after-same : (d e : Due) (n : ℕ) → dueNow d ≡ e → dueAfter d (Code n) ≡ dueAfterNow e (Code n)
 unfolding dueAfter
-after-same d e n p = ap (λ (x : Due). dueAfterStanding x (Code n)) p
+after-same d e n p = ap (λ (x : Due). dueAfterNow x (Code n)) p
 
 -- ---- a place that is known goes on to the next block, and loses nothing that is due
 module _ (r : Reader) (b : BlockNumber) (due : Due) (same : r .block ≡ b) (bits : KeptAsSent (b .0) (r .firsts)) where
@@ -160,8 +156,8 @@ module _ (s : Sender) (x : Turn) (rule : Rule) (w : Went s x rule) where
       plain : goesPlain rule ≡ true → goesPlain (ruleOf s (x .call .mute)) ≡ true
       plain g = rw (w .rule-is) at g
 
-  item-is : goesAsItem rule ≡ itemDue s
-  item-is = ap goesAsItem (w .rule-is) ∙ rule-due s (x .call .mute)
+  item-is : wordDue s ≡ cond (goesAsItem rule) AnItem Plain
+  item-is = due-by-rule s (x .call .mute) ∙ ap (λ (q : Rule). cond (goesAsItem q) AnItem Plain) (sym (w .rule-is))
 
   word-is : wordSent entry ≡ plan .word
   word-is =
@@ -179,9 +175,9 @@ module _ (s : Sender) (x : Turn) (rule : Rule) (w : Went s x rule) where
   line-is = w .line
 
   -- the word due after the call is the one that the slots' rule gives
-  due-on : dueAfterStanding (wordDue s) (Code (plan .word)) ≡ wordDue (after s x)
+  due-on : dueAfterNow (wordDue s) (Code (plan .word)) ≡ wordDue (after s x)
   due-on =
-      ap (λ (b : Bool). dueAfterStanding (cond b AnItem Plain) (Code (plan .word))) (sym item-is)
+      ap (λ (d : Due). dueAfterNow d (Code (plan .word))) item-is
       ∙ due-after-same s (x .call .code) rule sends
       ∙ ap (λ (q : Sender). cond (not (eqb (q .due) 0)) AnItem Plain) (sym (w .state))
 
@@ -199,14 +195,13 @@ module _ (s : Sender) (x : Turn) (rule : Rule) (w : Went s x rule) where
         remainder = ap (λ (q : Sender). q .remainder) (w .state);
         mode =
             ap (λ (q : Sender). q .mode) (w .state) ∙ plan-mode s (x .call .code) rule sends
-            ∙ ap₂ (λ (b : Bool) (n : ℕ). cond b (s .mode) (offered (commandOf n) (s .mode))) item-is (sym word-is)
-            ∙ commanded-is (itemDue s) (wordSent entry) (s .mode);
+            ∙ ap₂ (λ (d : Due) (n : ℕ). commanded d n (s .mode)) (sym item-is) (sym word-is);
         chosen =
             ap (λ (q : Sender). q .chosen) (w .state)
             ∙ ap (λ (q : Rule). (planBy q s (x .call .code)) .chosen) (w .rule-is) ∙ rule-chosen s (x .call);
         due =
             sym
-            (ap₂ (λ (d : Due) (n : ℕ). dueAfterStanding d (Code n)) (due-stands (itemDue s)) word-is ∙ due-on);
+            (ap₂ (λ (d : Due) (n : ℕ). dueAfterNow d (Code n)) (due-now s) word-is ∙ due-on);
       }
 
   -- ---- what the block shows a reader
@@ -241,7 +236,7 @@ module _ (s : Sender) (x : Turn) (rule : Rule) (w : Went s x rule) where
 
   module _ (small : x .call .code < 256) (r : Reader) (st : Placed s r) where
     reading-is : parts.wordRead r (Code (plan .word)) ≡ readingIn (wordDue s) (Code (plan .word))
-    reading-is = rw (st .knows) (reading-same (dueOf (r .slot)) (wordDue s) (plan .word) (st .due) (due-stands (itemDue s)))
+    reading-is = rw (st .knows) (reading-same (dueOf (r .slot)) (wordDue s) (plan .word) (st .due) (due-now s))
 
     -- the word due after the block is the sender's
     due-is : parts.dueRead r (Code (plan .word)) ≡ wordDue (after s x)
@@ -272,7 +267,7 @@ module _ (s : Sender) (x : Turn) (rule : Rule) (w : Went s x rule) where
           knows = ap (λ (q : BlockNumber). not (eqb (q .0) 0)) place ∙ ap not (ne-eqb n 0 (omega arith));
           place = place ∙ sym number-on;
           due =
-              ap (λ (q : Reader). standing (dueOf (q .slot))) next ∙ ap standing (due-back _ ∙ here .1 ∙ due-is) ∙ due-stands (itemDue (after s x));
+              ap (λ (q : Reader). dueNow (dueOf (q .slot))) next ∙ ap dueNow (due-back _ ∙ here .1 ∙ due-is) ∙ due-now (after s x);
           bits =
               subst (λ (q : Reader). KeptAsSent (after s x .block .0) (q .firsts)) (sym next)
               (subst (λ (q : BlockNumber). KeptAsSent (q .0) (parts.sixAfter (r .firsts) (bitOf b))) (sym number-on) (bits-go-on b lo hi (r .firsts) (st .bits)));
@@ -286,7 +281,7 @@ module _ (s : Sender) (x : Turn) (rule : Rule) (w : Went s x rule) where
     mode-again : r .mode ≡ s .mode → (readerAfter r entry) .mode ≡ after s x .mode
     mode-again same =
         mode-read
-        ∙ ap₂ (λ (t : Bool) (m : Mode). obeyed (readingIn (cond t AnItem Plain) (Code (plan .word))) m) (sym item-is) same
+        ∙ ap₂ (λ (d : Due) (m : Mode). obeyed (readingIn d (Code (plan .word))) m) item-is same
         ∙ mode-follows s (x .call .code) rule sends ∙ sym (ap (λ (q : Sender). q .mode) (w .state))
 
     -- neutral makes any two modes the same
@@ -325,16 +320,16 @@ module _ (s : Sender) (x : Turn) (rule : Rule) (w : Went s x rule) where
           word = reading-is ∙ ap (λ (k : ℕ). readingIn (wordDue s) (Code k)) (sym word-is);
           first = λ z. rw (eq-eqb (r .before) 0 z);
           good = λ a. rw (ne-eqb (r .before) 0 (a .before), eq-eqb (s .remainder) (r .remainder) (sym (a .remainder)));
-          heard =
-              ap (λ (z : Buffers). z .voice) handed
+          streams =
+              same-each
+              (ap (λ (z : Buffers). z .voice) handed
               ∙ ap (sortedOf (s .mode) Voice (streamOctets .voice)) line-is
               ∙ voice-bits-back (s .mode) header (x .call .mute) (x .lent) (ap (λ (n : Each ℕ). n .voice) (w .goes .streams))
-              ∙ ap (λ (n : ℕ). octets (streamOctets .voice) (cond (x .call .mute) (replicate n true) (take n (bitsOf (x .lent .voice))))) (voice-twice (s .mode));
-          given =
-              ap (λ (z : Buffers). z .lsd) handed
+              ∙ ap (λ (n : ℕ). octets (streamOctets .voice) (cond (x .call .mute) (replicate n true) (take n (bitsOf (x .lent .voice))))) (voice-twice (s .mode)))
+              (ap (λ (z : Buffers). z .lsd) handed
               ∙ ap (sortedOf (s .mode) Lsd (streamOctets .lsd)) line-is
               ∙ lsd-back (s .mode) header (x .call .mute) (x .lent) (ap (λ (n : Each ℕ). n .lsd) (w .goes .streams))
-              ∙ ap (λ (n : ℕ). octets (streamOctets .lsd) (take n (bitsOf (x .lent .lsd)))) (lsd-twice (s .mode) apart);
+              ∙ ap (λ (n : ℕ). octets (streamOctets .lsd) (take n (bitsOf (x .lent .lsd)))) (lsd-twice (s .mode) apart));
           state = ap (λ (q : Outcome). q .state) (t .0);
         }
 

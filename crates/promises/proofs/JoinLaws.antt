@@ -9,11 +9,11 @@ use lib.Dec.{eqb, leb}
 use lib.ListN.{length}
 use borrow.Author.Tests.{eqb-true, leb-true, not-true}
 use Rattle.bits.specs.Bits.{number}
-use Rattle.bits.proofs.Every.{and-left, and-right}
+use Rattle.bits.proofs.BoolLaws.{and-left, and-right}
 use Rattle.modes.specs.Numbers.{following}
 use Rattle.modes.specs.Modes.{mode}
 use Rattle.modes.specs.declared.BlockNumber.{BlockNumber}
-use Rattle.slots.specs.Slots.{standing}
+use Rattle.slots.specs.Slots.{dueNow}
 use Rattle.slots.specs.Readings.{obeyed}
 use Rattle.slots.specs.declared.Due.the-variants.{Plain}
 use Rattle.control.specs.State.{wordDue}
@@ -100,7 +100,7 @@ module _ (s : Sender) (x : Turn) (rule : Rule) (w : Went s x rule) (small : x .c
         range = step-in-range r (blockSent heard) (k .range);
         knows = ap (λ (q : BlockNumber). not (eqb (q .0) 0)) seventh;
         place = seventh ∙ sym number-on;
-        due = ap (λ (q : Slot). standing (dueOf q)) slot-on ∙ sym none;
+        due = ap (λ (q : Slot). dueNow (dueOf q)) slot-on ∙ sym none;
         bits =
             subst (λ (q : BlockNumber). KeptAsSent (q .0) ((readerAfter r heard) .firsts)) (sym number-on)
             (subst (λ (n : ℕ). KeptAsSent 7 n) (sym eleven) refl);

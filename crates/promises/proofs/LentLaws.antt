@@ -7,10 +7,9 @@ use Rattle.track.specs.Parts.{standingNumber, verdictNumber}
 use Rattle.reader.specs.Step.{outcomeOf}
 use Rattle.reader.specs.declared.Answer.the-variants.{Block}
 use Rattle.reader.proofs.OutcomeLaws.{told}
-use Rattle.card.specs.Sending.{sent}
+use Rattle.calls.specs.Sending.{sent}
 use Rattle.answers.specs.Answers.{readAnswerOf}
 use Rattle.answers.specs.declared.ReadAnswer.{ReadAnswer}
-use Rattle.card.specs.declared.ReadOutcome.{ReadOutcome}
 use Rattle.promises.specs.Session.{turned, run, blockSent}
 use Rattle.promises.specs.Lent.{Given, LeftInC, LeavesInC, AllowedInC, turnOf, inC, LentIsSession, LentSilence, ReadBackInC}
 use Rattle.promises.proofs.SilenceLaws.{run-allowed, silence}
@@ -40,17 +39,16 @@ lent-silence s xs ys ls ms h k alike =
     lent-run s xs ls h ∙ ap (map inC) same ∙ sym (lent-run s ys ms k)
 
 pub read-back-in-C : ReadBackInC
-read-back-in-C e r back b o out fit (eo, eb) =
+read-back-in-C e r back b a next out fit (ea, en, eb) =
     let h = back .hands b (outcomeOf r (blockSent e) b) out fit (told r (blockSent e) b _ out refl eb) in
-    let is : o .answer ≡ readAnswerOf (Block (h .report)) = ap (λ (q : ReadOutcome). q .answer) eo ∙ ap readAnswerOf (h .answer) in
+    let is : a ≡ readAnswerOf (Block (h .report)) = ea ∙ ap readAnswerOf (h .answer) in
     record {
       accepted = (ap (λ (q : ReadAnswer). q .kind) is, ap (λ (q : ReadAnswer). q .number) is);
       read = ap (λ (q : ReadAnswer). q .block .standing) is ∙ ap standingNumber (h .read);
       kind = ap (λ (q : ReadAnswer). q .block .reading) is ∙ ap readingKind (h .word);
       code = ap (λ (q : ReadAnswer). q .block .code) is ∙ ap readingCode (h .word);
       first = λ z. ap (λ (q : ReadAnswer). q .block .verdict) is ∙ ap verdictNumber (h .first z);
-      good = λ a. ap (λ (q : ReadAnswer). q .block .verdict) is ∙ ap verdictNumber (h .good a);
-      heard = h .heard;
-      given = h .given;
-      state = ap (λ (q : ReadOutcome). q .state) eo ∙ h .state;
+      good = λ g. ap (λ (q : ReadAnswer). q .block .verdict) is ∙ ap verdictNumber (h .good g);
+      streams = h .streams;
+      state = en ∙ h .state;
     }

@@ -14,3 +14,4 @@ pub mod FigureLaws
 pub mod EnoughLaws
 pub mod QuietLaws
 pub mod Examples
+pub mod KeptLaws

@@ -1,13 +1,15 @@
 -- Demand 3, its second part: where mute stays set, its own "audio off" has gone as a command by the second accepted call.
-use mathlib.Core.Path.{_≡_, refl, ap, subst, _∙_}
-use mathlib.Core.Bool.{Bool, true, false, cond}
+use mathlib.Core.Path.{_≡_, refl, subst, _∙_}
+use mathlib.Core.Bool.{true, cond}
 use mathlib.Core.List.{List, [], _∷_}
 use mathlib.Core.Logic.{_⊎_, inl, inr}
 use Prim.Native.Nat.{ℕ, zero, suc, _<_, suc-le-suc}
 use native.Mathlib.Nat.{not-suc-le-zero}
 use native.Mathlib.Omega.{arith}
+use Rattle.slots.specs.Slots.{isItem}
+use Rattle.slots.specs.declared.Due.{Due}
 use Rattle.slots.specs.declared.Due.the-variants.{Plain, AnItem}
-use Rattle.control.specs.State.{itemDue, sounding}
+use Rattle.control.specs.State.{wordDue, sounding}
 use Rattle.control.specs.Rules.{ruleOf}
 use Rattle.control.specs.Plans.{planBy}
 use Rattle.control.specs.declared.Sender.{Sender}
@@ -15,6 +17,7 @@ use Rattle.control.specs.declared.Rule.{Rule}
 use Rattle.control.specs.declared.Rule.the-variants.{AsItem, MuteOff}
 use Rattle.promises.specs.Session.{Turn, Entry, after, log, entryOf}
 use Rattle.promises.specs.Demand3.{MuteStaysSet, MuteGone, By, MuteBound}
+use Rattle.promises.proofs.RuleLaws.{due-cases}
 use Rattle.promises.proofs.TurnLaws.{Stayed, Went, turn-cases, log-stayed, log-went}
 
 -- ---- one of the first n
@@ -61,40 +64,34 @@ module _ (P : Entry → Type 0) (Waits : Sender → Type 0) (left : Sender → �
         go here next (inr (rule, q)) = rw (log-went s x xs rule q) (sent next (moves s x rule w (m .0) q))
 
 -- ---- here: two calls where an item is due, since it goes first and leaves audio in force; else one
-abbrev callsLeft : Bool → ℕ
-callsLeft true = 2
-callsLeft false = 1
+abbrev callsLeft : Due → ℕ
+callsLeft due = cond (isItem due) 2 1
 
-calls-few : (due : Bool) → (0 < callsLeft due) × (callsLeft due < 3)
-calls-few true = (omega arith, omega arith)
-calls-few false = (omega arith, omega arith)
+calls-few : (s : Sender) → (0 < callsLeft (wordDue s)) × (callsLeft (wordDue s) < 3)
+calls-few = due-cases (λ d. (0 < callsLeft d) × (callsLeft d < 3)) (omega arith, omega arith) (omega arith, omega arith)
 
-item-rule : (s : Sender) (mute : Bool) → itemDue s ≡ true → ruleOf s mute ≡ AsItem
-unfolding ruleOf
-item-rule s mute d = rw d
+abbrev Moves : Sender → Turn → Type 0
+Moves s x =
+    MuteGone (entryOf s x)
+    ⊎ ((sounding (after s x) ≡ true) × (callsLeft (wordDue (after s x)) < callsLeft (wordDue s)))
 
-mute-rule : (s : Sender) (mute : Bool) → itemDue s ≡ false → sounding s ≡ true → mute ≡ true → ruleOf s mute ≡ MuteOff
-unfolding ruleOf
-mute-rule s mute d h m = rw (d, h, m)
-
-mute-moves : (s : Sender) (x : Turn) (rule : Rule) → sounding s ≡ true → x .call .mute ≡ true → Went s x rule
-    → MuteGone (entryOf s x)
-    ⊎ ((sounding (after s x) ≡ true) × (callsLeft (itemDue (after s x)) < callsLeft (itemDue s)))
-unfolding planBy
-mute-moves s x rule h m w = go (itemDue s) refl
+mute-moves : (s : Sender) (x : Turn) (rule : Rule) → sounding s ≡ true → x .call .mute ≡ true → Went s x rule → Moves s x
+unfolding planBy ruleOf
+mute-moves s x rule h m w = due-cases (λ d. wordDue s ≡ d → Moves s x) item plain s refl
   where
-    go : (due : Bool) → itemDue s ≡ due
-        → MuteGone (entryOf s x)
-        ⊎ ((sounding (after s x) ≡ true) × (callsLeft (itemDue (after s x)) < callsLeft (itemDue s)))
-    go true d =
-        let i : Went s x AsItem = subst (λ (q : Rule). Went s x q) (w .rule-is ∙ item-rule s (x .call .mute) d) w in
+    item : wordDue s ≡ AnItem → Moves s x
+    item d =
+        let own : ruleOf s (x .call .mute) ≡ AsItem = rw d in
+        let i : Went s x AsItem = subst (λ (q : Rule). Went s x q) (w .rule-is ∙ own) w in
         inr (rw (i .state) h, rw (i .state, d) (omega arith))
-    go false d =
-        let own = mute-rule s (x .call .mute) d h m in
+
+    plain : wordDue s ≡ Plain → Moves s x
+    plain d =
+        let own : ruleOf s (x .call .mute) ≡ MuteOff = rw (d, h, m) in
         let o : Went s x MuteOff = subst (λ (q : Rule). Went s x q) (w .rule-is ∙ own) w in
-        inl (record { command = ap (λ (b : Bool). cond b AnItem Plain) d; muted = m; held = o .answer; octets = o .line })
+        inl (record { command = d; muted = m; held = o .answer; octets = o .line })
 
 pub mute-bound : MuteBound
 mute-bound s xs h m =
-    by-more (callsLeft (itemDue s)) 2 MuteGone (log s xs) (calls-few (itemDue s) .1)
-    (count-down MuteGone (λ u. sounding u ≡ true) (λ u. callsLeft (itemDue u)) (λ u w. calls-few (itemDue u) .0) mute-moves xs s h m)
+    by-more (callsLeft (wordDue s)) 2 MuteGone (log s xs) (calls-few s .1)
+    (count-down MuteGone (λ u. sounding u ≡ true) (λ u. callsLeft (wordDue u)) (λ u w. calls-few u .0) mute-moves xs s h m)

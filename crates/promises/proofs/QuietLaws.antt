@@ -9,6 +9,7 @@ use Rattle.crc.specs.Crc.{blockCrcOf}
 use Rattle.modes.specs.Numbers.{following}
 use Rattle.modes.specs.Modes.{audioOff, lsdOff, off, mode}
 use Rattle.modes.specs.declared.BlockNumber.{BlockNumber}
+use Rattle.slots.specs.Slots.{dueAfter}
 use Rattle.codes.specs.Carried.{carried, senderCarries, openingOf}
 use Rattle.codes.specs.Commands.{commandOf, offered}
 use Rattle.slots.specs.declared.Due.the-variants.{Plain}
@@ -44,7 +45,7 @@ module _ (b : BlockNumber) (n : ℕ) (range : stateInRange (still b n) ≡ true)
   next = blockCrcOf (blockFor (still b n) (calm .call) 0x80 (calm .lent))
 
   calm-after : after (still b n) calm ≡ still (following b) next
-  unfolding turned outcomeOf decisionOf rulingOf ruleOf planBy senderCarries carried clashes commandOf offered openingOf
+  unfolding turned outcomeOf decisionOf rulingOf ruleOf planBy senderCarries carried clashes commandOf offered openingOf dueAfter
   calm-after = rw (range, after)
 
   still-range : stateInRange (still (following b) next) ≡ true

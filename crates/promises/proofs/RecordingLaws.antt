@@ -9,8 +9,8 @@ use lib.Dec.{leb}
 use lib.ListN.{length, getD, take, drop, length-append, length-drop, List·getD-append}
 use lib.Seq.{take-at, drop-at, drop-drop, getD-append-add, drop-append-seam}
 use borrow.Author.Tests.{eq-eqb, le-leb, le-ltb, leb-true}
-use Rattle.bits.specs.Bits.{odd, number, xors}
-use Rattle.bits.proofs.Every.{and-left, and-right}
+use Rattle.bits.specs.Bits.{scBit, number, xors}
+use Rattle.bits.proofs.BoolLaws.{and-left, and-right}
 use Rattle.bas.specs.Reading.{weight}
 use Rattle.service.specs.Service.{evenAlignment}
 use Rattle.service.specs.Channel.{channelBits, alignmentBits, wrongBits}
@@ -58,7 +58,7 @@ is-aligned : (part : List ℕ) → aligned part ≡ true → Aligned part
 unfolding aligned channelBits
 is-aligned part e =
     let a = spells 1 part in
-    let b = odd (getD part 81 0) in
+    let b = scBit (getD part 81 0) in
     let c = spells 161 part in
     let abc = and-left (a && b && c) (leb 168 (length part)) e in
     let ab = and-left (a && b) c abc in
@@ -102,14 +102,14 @@ channel-in : (n at : ℕ) (b z : List ℕ) → at + n ≤ length b → channelBi
 unfolding channelBits
 channel-in zero at b z h = refl
 channel-in (suc n) at b z h =
-    ap₂ (λ (x : ℕ) (l : List Bool). odd x ∷ l) (List·getD-append b z 0 at (omega arith)) (channel-in n (at + 1) b z (omega arith))
+    ap₂ (λ (x : ℕ) (l : List Bool). scBit x ∷ l) (List·getD-append b z 0 at (omega arith)) (channel-in n (at + 1) b z (omega arith))
 
 channel-past : (n at : ℕ) (b z : List ℕ) → channelBits n (length b + at) (b ++ z) ≡ channelBits n at z
 unfolding channelBits
 channel-past zero at b z = refl
 channel-past (suc n) at b z =
     let e : length b + at + 1 ≡ length b + (at + 1) = omega arith in
-    ap₂ (λ (x : ℕ) (l : List Bool). odd x ∷ l) (getD-append-add b z at 0)
+    ap₂ (λ (x : ℕ) (l : List Bool). scBit x ∷ l) (getD-append-add b z at 0)
     (ap (λ (k : ℕ). channelBits n k (b ++ z)) e ∙ channel-past n (at + 1) b z)
 
 -- ---- alignment stands at the first of two blocks in a row, whatever follows
@@ -117,7 +117,7 @@ word-first : (b : List ℕ) → Framed b → channelBits 7 1 b ≡ evenAlignment
 unfolding alignmentBits channelBits
 word-first b f = ap (take 7) (f .word)
 
-word-one : (b : List ℕ) → Framed b → odd (getD b 81 0) ≡ true
+word-one : (b : List ℕ) → Framed b → scBit (getD b 81 0) ≡ true
 unfolding alignmentBits channelBits
 word-one b f = ap (λ (l : List Bool). getD l 7 false) (f .word)
 
@@ -129,9 +129,9 @@ two-aligned b c z f g =
     let next : channelBits 7 161 (b ++ c ++ z) ≡ evenAlignment =
     ap₂ (λ (k : ℕ) (l : List ℕ). channelBits 7 (k + 1) l) (sym (f .length)) (append-assoc b c z)
     ∙ channel-past 7 1 b (c ++ z) ∙ channel-in 7 1 c z (omega (arith, g .length)) ∙ word-first c g in
-    let one : odd (getD (b ++ c ++ z) 81 0) ≡ true =
-    ap (λ (l : List ℕ). odd (getD l 81 0)) (append-assoc b c z)
-    ∙ ap odd (List·getD-append b (c ++ z) 0 81 (omega (arith, f .length))) ∙ word-one b f in
+    let one : scBit (getD (b ++ c ++ z) 81 0) ≡ true =
+    ap (λ (l : List ℕ). scBit (getD l 81 0)) (append-assoc b c z)
+    ∙ ap scBit (List·getD-append b (c ++ z) 0 81 (omega (arith, f .length))) ∙ word-one b f in
     let long : 168 ≤ length (b ++ c ++ z) = omega (arith, length-append (b ++ c) z, length-append b c, f .length, g .length) in
     rw (spelled 1 (b ++ c ++ z) here, one, spelled 161 (b ++ c ++ z) next, le-leb 168 (length (b ++ c ++ z)) long)
 

@@ -7,16 +7,15 @@ use native.Mathlib.Omega.{arith}
 use lib.Dec.{ltb}
 use lib.ListN.{length, getD, drop, length-drop, drop-of-length-le}
 use lib.Seq.{drop-cons}
-use Rattle.refusals.specs.Rows.{rulingNumber}
+use Rattle.refusals.specs.Rows.{firstGiven, rulingNumber}
 use Rattle.refusals.specs.declared.Refusal.the-variants.{BadRecording}
 use Rattle.refusals.specs.declared.Ruling.{Ruling}
 use Rattle.refusals.specs.declared.Ruling.the-variants.{Refuse, Accept}
 use Rattle.refusals.proofs.RowLaws.{number-is}
-use Rattle.control.specs.State as sender
 use Rattle.control.specs.Refusals as sender-list
 use Rattle.sender.specs.Step as sending
 use Rattle.sender.proofs.OutcomeLaws.{refused-is}
-use Rattle.presets.specs.Presets.{isPreset, presetRead, presetWritten, presetNumber, writtenNumber}
+use Rattle.presets.specs.Presets.{readRows, readBy, presetRead, writtenRows, writtenBy, presetWritten, presetNumber, writtenNumber}
 use Rattle.control.specs.declared.Sender.{Sender}
 use Rattle.control.specs.declared.Call.{Call}
 use Rattle.track.specs.State as reader
@@ -133,16 +132,18 @@ stepping-refuses recording place lost s b r out er eb =
 
 pub reading-preset-refuses : ReadingPreset
 unfolding presetRead
-reading-preset-refuses bits r e = record { ordered = refl; exact = rw e (go (isPreset bits) refl); kept = λ h. tt }
+reading-preset-refuses bits r e =
+    record { ordered = refl; exact = rw e (go (firstGiven (readRows bits)) ∙ number-is (readRows bits)); kept = λ h. tt }
   where
-    go : (b : Bool) → isPreset bits ≡ b → presetNumber ((presetRead bits) .answer) ≡ cond (not (isPreset bits)) 11 0
-    go true p = rw p
-    go false p = rw p
+    go : (q : Ruling) → presetNumber ((readBy q bits) .answer) ≡ rulingNumber q
+    go (Refuse why) = refl
+    go Accept = refl
 
 pub writing-preset-refuses : WritingPreset
 unfolding presetWritten
-writing-preset-refuses s r e = record { ordered = refl; exact = rw e (go (sender.stateInRange s) refl); kept = λ h. tt }
+writing-preset-refuses s r e =
+    record { ordered = refl; exact = rw e (go (firstGiven (writtenRows s)) ∙ number-is (writtenRows s)); kept = λ h. tt }
   where
-    go : (b : Bool) → sender.stateInRange s ≡ b → writtenNumber (presetWritten s) ≡ cond (not (sender.stateInRange s)) 1 0
-    go true p = rw p
-    go false p = rw p
+    go : (q : Ruling) → writtenNumber (writtenBy q s) ≡ rulingNumber q
+    go (Refuse why) = refl
+    go Accept = refl

@@ -20,20 +20,21 @@ use Rattle.codes.specs.declared.Command.the-variants.{Neutral, SetAudio, SetLsd
 use Rattle.codes.specs.declared.Opening.{Opening}
 use Rattle.codes.specs.declared.Opening.the-variants.{Nothing, Item, Message}
 use Rattle.codes.proofs.CodeLaws.{audio-code, lsd-code}
-use Rattle.slots.specs.Slots.{dueBy, dueAfterStanding}
+use Rattle.slots.specs.Slots.{dueBy, dueAfterNow, dueAfter, slotOf}
 use Rattle.slots.specs.Readings.{readingIn, obeyed}
 use Rattle.slots.specs.declared.Due.the-variants.{Plain, AnItem}
 use Rattle.slots.specs.declared.Reading.{Reading}
 use Rattle.slots.specs.declared.Reading.the-variants.{Mended}
 use Rattle.slots.proofs.SlotLaws.{item-no-command}
 use Rattle.control.specs.State.{chosenMode}
-use Rattle.control.specs.Plans.{dueNumber, planBy}
+use Rattle.control.specs.Plans.{planBy}
 use Rattle.control.specs.Refusals.{isAudio, isLsd, clashes, goesPlain, goesAsItem}
 use Rattle.control.specs.declared.Sender.{Sender}
 use Rattle.control.specs.declared.Rule.{Rule}
 use Rattle.control.specs.declared.Rule.the-variants.{AsItem, MuteOff, Release, Offered}
 use Rattle.control.proofs.RangeLaws.{Kept}
-use Rattle.bits.proofs.Every.{or-left-false, or-right-false}
+use Rattle.promises.specs.Demand2.{commanded}
+use Rattle.bits.proofs.BoolLaws.{or-left-false, or-right-false}
 
 -- ---- what is known of a word that goes
 pub record Sends (s : Sender) (code : ℕ) (rule : Rule) : Type 0 where
@@ -79,7 +80,7 @@ module _ (s : Sender) (code : ℕ) where
 
   -- what a word does to the sender's mode is what its command says
   pub plan-mode : (rule : Rule) → Sends s code rule
-      → (planBy rule s code) .mode ≡ cond (goesAsItem rule) (s .mode) (offered (commandOf ((planBy rule s code) .word)) (s .mode))
+      → (planBy rule s code) .mode ≡ commanded (cond (goesAsItem rule) AnItem Plain) ((planBy rule s code) .word) (s .mode)
   unfolding planBy offered
   plan-mode AsItem k = refl
   plan-mode MuteOff k = rw (audio-command audioOff (off-ranged .spoken) (off-ranged .named))
@@ -107,7 +108,7 @@ marker-not-carried w a v =
     simp (ne-eqb (w / 32) 0 (omega arith), ne-eqb (w / 32) 3 (omega arith), ne-eqb w 32 (omega arith), lt-leb (w / 32) 6 (omega arith), lt-leb (w % 32) 20 (omega arith), ne-eqb (w % 32) 24 (omega arith), and-false, or-false)
 
 due-follows : (w : ℕ) → readerCarries w ≡ true → (opening : Opening) → openingOf w ≡ opening
-    → dueBy opening ≡ cond (not (eqb (dueNumber opening) 0)) AnItem Plain
+    → dueBy opening ≡ cond (not (eqb ((slotOf (dueBy opening)) .kind) 0)) AnItem Plain
 unfolding readerCarries
 due-follows w k Nothing e = refl
 due-follows w k Item e = refl
@@ -212,9 +213,9 @@ module _ (s : Sender) (code : ℕ) where
 
   -- and the word due after it is the same
   pub due-after-same : (rule : Rule) → Sends s code rule
-      → dueAfterStanding (cond (goesAsItem rule) AnItem Plain) (Code ((planBy rule s code) .word))
+      → dueAfterNow (cond (goesAsItem rule) AnItem Plain) (Code ((planBy rule s code) .word))
       ≡ cond (not (eqb ((planBy rule s code) .due) 0)) AnItem Plain
-  unfolding planBy openingOf
+  unfolding planBy openingOf dueAfter
   due-after-same AsItem k = refl
   due-after-same MuteOff k = refl
   due-after-same Release k =

@@ -9,7 +9,8 @@ use lib.ListN.{length, drop}
 use Rattle.codes.specs.Codes.{attribute}
 use Rattle.codes.specs.Carried.{senderCarries}
 use Rattle.refusals.specs.Numbers.{ranked}
-use Rattle.control.specs.State.{itemDue, sounding, choosing}
+use Rattle.slots.specs.Slots.{isItem}
+use Rattle.control.specs.State.{wordDue, sounding, choosing}
 use Rattle.control.specs.State as sender
 use Rattle.control.specs.Refusals as sender-list
 use Rattle.sender.specs.Step as sending
@@ -54,11 +55,11 @@ pub record Refuses (n : ℕ) (rows : List Row) (untouched : Type 0) : Type 0 whe
 -- ---- `sender::send`: rows 1 to 8
 -- the offered code is held: no item is due, and mute's "audio off" or the chosen command goes
 abbrev pub held : Sender → Call → Bool
-held s c = not (itemDue s) && (c .mute && sounding s || not (c .mute) && not (sounding s) && choosing s)
+held s c = not (isItem (wordDue s)) && (c .mute && sounding s || not (c .mute) && not (sounding s) && choosing s)
 
 -- rows 5 to 8 look only at an offered code that is not held; 5, 7 and 8 only where no item is due. Where one is, the code is never held
 abbrev pub plain : Sender → Call → Bool
-plain s c = not (held s c) && not (itemDue s)
+plain s c = not (held s c) && not (isItem (wordDue s))
 
 abbrev pub sendingRows : Sender → Call → Buffers → List ℕ → List Row
 sendingRows s c b line =
@@ -67,7 +68,7 @@ sendingRows s c b line =
     ∷ row 3 (not (eqb (length (b .voice)) 140))
     ∷ row 4 (not (eqb (length (b .lsd)) 156))
     ∷ row 5 (plain s c && not (senderCarries (c .code)))
-    ∷ row 6 (itemDue s && eqb (attribute (c .code)) 0b111)
+    ∷ row 6 (isItem (wordDue s) && eqb (attribute (c .code)) 0b111)
     ∷ row 7 (plain s c && sender-list.isAudio (c .code) && c .mute)
     ∷ row 8 (plain s c && sender-list.clashes s (c .code))
     ∷ []

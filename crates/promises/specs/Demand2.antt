@@ -13,19 +13,19 @@ use Rattle.crc.specs.Crc.{blockCrcOf}
 use Rattle.bas.specs.Words as bas
 use Rattle.bas.specs.Reading.{weight, readingOf}
 use Rattle.bas.specs.declared.Word.the-variants.{Code}
-use Rattle.buffers.specs.Buffers.{Buffers, lengths}
+use Rattle.buffers.specs.Buffers.{Buffers, each, lengths}
 use Rattle.buffers.specs.Lengths.{streamOctets}
 use Rattle.modes.specs.Numbers.{following}
 use Rattle.modes.specs.Owners.{heldBy, bitsPerFrame}
 use Rattle.modes.specs.Modes.{audioOff, off, mode}
 use Rattle.modes.specs.declared.Mode.{Mode}
 use Rattle.modes.specs.declared.Owner.{Owner}
-use Rattle.modes.specs.declared.Owner.the-variants.{Voice, Lsd}
+use Rattle.modes.specs.declared.Owner.the-variants.{Service, Voice, Lsd, Nobody}
 use Rattle.codes.specs.Codes.{neutral, written, audioAttribute}
 use Rattle.codes.specs.Commands.{commandOf, offered}
 use Rattle.codes.specs.declared.Command.{Command}
 use Rattle.codes.specs.declared.Command.the-variants.{Neutral, SetAudio, SetLsd, NoEffect}
-use Rattle.slots.specs.Slots.{standing, dueAfter, slotOf, dueOf}
+use Rattle.slots.specs.Slots.{dueNow, dueAfter, slotOf, dueOf}
 use Rattle.slots.specs.Readings.{readingIn}
 use Rattle.slots.specs.declared.Due.{Due}
 use Rattle.slots.specs.declared.Due.the-variants.{Plain, AnItem, N, Words}
@@ -65,7 +65,7 @@ wordTold Sent mute s code = code
 wordTold Held mute s code = written audioAttribute (cond mute audioOff (s .chosen))
 wordTold (Refused r) mute s code = 0
 
--- the word of an accepted call
+-- the word of an accepted call (DECISIONS F40)
 abbrev pub wordSent : Entry → ℕ
 wordSent e = wordTold (answerTo e) (e .turn .call .mute) (e .found) (e .turn .call .code)
 
@@ -121,12 +121,12 @@ abbrev pub KeptAsSent : ℕ → ℕ → Type 0
 KeptAsSent block firsts = firsts % 2 ^ length (lastSix (sentSince block)) ≡ number (lastSix (sentSince block))
 
 -- place known and equal to the sender's next block, the same word due, the odd-frame first bits kept since block 1 of this multiframe as
--- sent
+-- sent; and the reader's state is in range (DECISIONS F28, F38)
 pub record Placed (s : Sender) (r : Reader) : Type 0 where
   pub range : stateInRange r ≡ true
   pub knows : known r ≡ true
   pub place : r .block ≡ s .block
-  pub due : standing (dueOf (r .slot)) ≡ wordDue s
+  pub due : dueNow (dueOf (r .slot)) ≡ wordDue s
   pub bits : KeptAsSent (s .block .0) (r .firsts)
 
 -- and the same audio and data in force
@@ -147,15 +147,18 @@ readerAfter r e = (stepOf r (signsOf (blockSent e))) .state
 abbrev pub counting : Owner → Mode → ℕ
 counting o m = 2 * bitsPerFrame (heldBy m o)
 
--- each voice bit of an open block, and ones for a muted one
-abbrev pub voiceBits : Entry → List Bool
-voiceBits e =
+-- what a stream hands back: each voice bit of an open block, and ones for a muted one; each data bit
+abbrev pub streamBits : Owner → Entry → List Bool
+streamBits Voice e =
     let n = counting Voice (e .found .mode) in
     cond (e .turn .call .mute) (replicate n true) (take n (bitsOf (e .turn .lent .voice)))
+streamBits Lsd e = take (counting Lsd (e .found .mode)) (bitsOf (e .turn .lent .lsd))
+streamBits Service e = []
+streamBits Nobody e = []
 
--- each data bit
-abbrev pub lsdBits : Entry → List Bool
-lsdBits e = take (counting Lsd (e .found .mode)) (bitsOf (e .turn .lent .lsd))
+-- and the buffers with it, and zeros after it
+abbrev pub handedBack : Entry → Buffers
+handedBack e = each (octets (streamOctets .voice) (streamBits Voice e)) (octets (streamOctets .lsd) (streamBits Lsd e))
 
 -- whatever the reader's contract allows, with buffers of the right lengths: the block is read; its word is the word sent, under the
 -- reading that its slot gives it; voice and data are the sender's, and zeros after them; every verdict but a first is good once the
@@ -167,8 +170,7 @@ pub record HandedBack (e : Entry) (r : Reader) (o : Outcome) (out : Buffers) : T
   pub word : report .reading ≡ readingIn (wordDue (e .found)) (Code (wordSent e))
   pub first : r .before ≡ 0 → report .verdict ≡ None
   pub good : Agrees (e .found) r → report .verdict ≡ Good
-  pub heard : out .voice ≡ octets (streamOctets .voice) (voiceBits e)
-  pub given : out .lsd ≡ octets (streamOctets .lsd) (lsdBits e)
+  pub streams : out ≡ handedBack e
   pub state : o .state ≡ readerAfter r e
 
 pub record Back (e : Entry) (r : Reader) : Type 0 where

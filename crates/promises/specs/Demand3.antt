@@ -56,7 +56,7 @@ pub record MuteGone (e : Entry) : Type 0 where
   pub octets : (turned (e .found) (e .turn)) .line
       ≡ blockFor (e .found) (e .turn .call) (written audioAttribute audioOff) (e .turn .lent)
 
--- one of the first n entries is so, if there are that many
+-- one of the first n entries is so, if there are n
 abbrev pub By : ℕ → (Entry → Type 0) → List Entry → Type 0
 By zero P es = ⊥
 By (suc n) P [] = Unit {0}

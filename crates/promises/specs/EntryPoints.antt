@@ -11,7 +11,7 @@ use Rattle.text.specs.Over.{Written}
 use Rattle.search.specs.Finding.{searchOf}
 use Rattle.search.specs.declared.Found.the-variants.{Place}
 use Rattle.control.specs.State as sender
-use Rattle.presets.specs.Presets.{isPreset, presetRead, presetWritten}
+use Rattle.presets.specs.Presets.{isPreset}
 use Rattle.control.specs.declared.Sender.{Sender}
 use Rattle.control.specs.declared.Call.{Call}
 use Rattle.track.specs.State as reader
@@ -25,20 +25,21 @@ use Rattle.recording.specs.declared.Stepped.{Stepped}
 use Rattle.walk.specs.Walks.{onward}
 use Rattle.walk.specs.declared.Walk.{Walk}
 use Rattle.walk.specs.declared.Onward.{Onward}
-use Rattle.lines.specs.Lines.{numberLine}
+use Rattle.wording.specs.Lines.{numberLine}
 use Rattle.scribe.specs.Listing.{listingOf}
 use Rattle.buffers.specs.Buffers.{Buffers}
-use Rattle.card.specs.Sending.{callOf, SendTold}
-use Rattle.card.specs.Reading.{ReadTold}
 use Rattle.answers.specs.Answers.{searchAnswerOf}
-use Rattle.card.specs.Walking.{StepTold}
-use Rattle.card.specs.Presets.{presetOutcomeOf, presetBitsOf}
 use Rattle.answers.specs.declared.SendAnswer.{SendAnswer}
-use Rattle.card.specs.declared.ReadOutcome.{ReadOutcome}
+use Rattle.answers.specs.declared.ReadAnswer.{ReadAnswer}
 use Rattle.answers.specs.declared.SearchAnswer.{SearchAnswer}
-use Rattle.card.specs.declared.StepOutcome.{StepOutcome}
-use Rattle.card.specs.declared.PresetOutcome.{PresetOutcome}
-use Rattle.card.specs.declared.PresetBits.{PresetBits}
+use Rattle.answers.specs.declared.StepAnswer.{StepAnswer}
+use Rattle.answers.specs.declared.PresetAnswer.{PresetAnswer}
+use Rattle.answers.specs.declared.PresetBits.{PresetBits}
+use Rattle.calls.specs.Sending.{callOf, SendTold}
+use Rattle.calls.specs.Reading.{ReadTold}
+use Rattle.calls.specs.Walking.{StepTold}
+use Rattle.calls.specs.Presets.{PresetTold, presetGiven}
+use Rattle.calls.specs.declared.WalkState.{WalkState}
 use Rattle.promises.specs.Demand1.{Row, row, first, Refuses, held, sendingRows, readingRows, searchingRows, steppingRows}
 
 -- ---- `reader::look`: rows 1 and 2, for it is lent no buffers
@@ -93,29 +94,28 @@ SendingInC = (s : Sender) (mute code a e t : ℕ) (b : Buffers) (line : List ℕ
 
 -- `delampuk_read`: kind 1 is refused
 abbrev pub ReadingInC : Type 0
-ReadingInC = (s : Reader) (line : List ℕ) (b : Buffers) (r : ReadOutcome) (out : Buffers)
-    → ReadTold s line b r out
-    → RefusesInC (r .answer .kind) 1 (r .answer .number) (readingRows s line b) ((r .state ≡ s) × (out ≡ b))
+ReadingInC = (s : Reader) (line : List ℕ) (b : Buffers) (r : ReadAnswer) (next : Reader) (out : Buffers)
+    → ReadTold s line b r next out
+    → RefusesInC (r .kind) 1 (r .number) (readingRows s line b) ((next ≡ s) × (out ≡ b))
 
 -- `delampuk_search`: where it does not refuse, its place is the one that the search found
 abbrev pub SearchingInC : Type 0
 SearchingInC = (recording : List ℕ) (start : ℕ) (r : SearchAnswer) → r ≡ searchAnswerOf (searchOf recording start)
     → Refuses (r .number) (searchingRows recording start) (Unit {0}) × (r .number ≡ 0 → searchOf recording start ≡ Place (r .place))
 
--- `delampuk_step`: kind 3 is refused, and then the mark comes back as it was too
+-- `delampuk_step`: kind 3 is refused, and then the whole walk is as it was, its mark and its reserved octets too
 abbrev pub SteppingInC : Type 0
-SteppingInC = (recording : List ℕ) (place mark : ℕ) (s : Reader) (b : Buffers) (r : StepOutcome) (out : Buffers)
-    → StepTold recording place mark s b r out
-    → RefusesInC (r .answer .kind) 3 (r .answer .number) (steppingRows recording place s b)
-    ((r .reader ≡ s) × (r .place ≡ place) × (r .lost ≡ mark) × (out ≡ b))
+SteppingInC = (w : WalkState) (recording : List ℕ) (b : Buffers) (r : StepAnswer) (next : WalkState) (out : Buffers)
+    → StepTold w recording b r next out
+    → RefusesInC (r .kind) 3 (r .number) (steppingRows recording (w .place) (w .reader) b) ((next ≡ w) × (out ≡ b))
 
 -- `delampuk_read_preset` and `delampuk_write_preset`
 abbrev pub ReadingPresetInC : Type 0
-ReadingPresetInC = (bits : ℕ) (r : PresetOutcome) → r ≡ presetOutcomeOf (presetRead bits)
-    → Refuses (r .number) (row 11 (not (isPreset bits)) ∷ []) (Unit {0})
+ReadingPresetInC = (s : Sender) (bits : ℕ) (r : PresetAnswer) (next : Sender) → PresetTold s bits r next
+    → Refuses (r .number) (row 11 (not (isPreset bits)) ∷ []) (next ≡ s)
 
 abbrev pub WritingPresetInC : Type 0
-WritingPresetInC = (s : Sender) (r : PresetBits) → r ≡ presetBitsOf (presetWritten s)
+WritingPresetInC = (s : Sender) (r : PresetBits) → r ≡ presetGiven s
     → Refuses (r .number) (row 1 (not (sender.stateInRange s)) ∷ []) (Unit {0})
 
 -- ---- `scribe::list` and `delampuk_list` refuse nothing: they take every recording and every text, and the listing says which row of a

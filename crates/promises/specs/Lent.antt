@@ -3,7 +3,6 @@
 use mathlib.Core.Path.{_≡_}
 use mathlib.Core.List.{List, [], _∷_, map}
 use Prim.Native.Nat.{ℕ}
-use Rattle.bits.specs.Bits.{octets}
 use Rattle.bas.specs.declared.Word.the-variants.{Code}
 use Rattle.slots.specs.Readings.{readingIn, readingKind, readingCode}
 use Rattle.control.specs.State.{wordDue}
@@ -15,12 +14,12 @@ use Rattle.track.specs.declared.Verdict.the-variants.{None, Good}
 use Rattle.answers.specs.Answers.{sendAnswerOf}
 use Rattle.buffers.specs.Buffers.{Buffers, lengths}
 use Rattle.buffers.specs.Lengths.{streamOctets}
-use Rattle.card.specs.Sending.{callOf, SendTold}
-use Rattle.card.specs.Reading.{ReadTold}
-use Rattle.card.specs.declared.ReadOutcome.{ReadOutcome}
+use Rattle.calls.specs.Sending.{callOf, SendTold}
+use Rattle.calls.specs.Reading.{ReadTold}
 use Rattle.answers.specs.declared.SendAnswer.{SendAnswer}
+use Rattle.answers.specs.declared.ReadAnswer.{ReadAnswer}
 use Rattle.promises.specs.Session.{Turn, Left, Allowed, Entry, blockSent}
-use Rattle.promises.specs.Demand2.{wordSent, Agrees, readerAfter, voiceBits, lsdBits, Back}
+use Rattle.promises.specs.Demand2.{wordSent, Agrees, readerAfter, handedBack, Back}
 use Rattle.promises.specs.Demand3.{Alike}
 use Rattle.promises.specs.EntryPoints.{callInC}
 
@@ -72,17 +71,16 @@ LentSilence = (s : Sender) (xs ys : List Given) (ls ms : List LeftInC) → Allow
 -- ---- reading
 -- what a reader in step hands back of a block, in numbers: the block is read, its word is the word sent under the reading that its slot gives
 -- it, voice and data are the sender's, and every verdict but a first is good once the remainder agrees
-pub record BackInC (e : Entry) (r : Reader) (o : ReadOutcome) (out : Buffers) : Type 0 where
-  pub accepted : (o .answer .kind ≡ 0) × (o .answer .number ≡ 0)
-  pub read : o .answer .block .standing ≡ standingNumber Read
-  pub kind : o .answer .block .reading ≡ readingKind (readingIn (wordDue (e .found)) (Code (wordSent e)))
-  pub code : o .answer .block .code ≡ readingCode (readingIn (wordDue (e .found)) (Code (wordSent e)))
-  pub first : r .before ≡ 0 → o .answer .block .verdict ≡ verdictNumber None
-  pub good : Agrees (e .found) r → o .answer .block .verdict ≡ verdictNumber Good
-  pub heard : out .voice ≡ octets (streamOctets .voice) (voiceBits e)
-  pub given : out .lsd ≡ octets (streamOctets .lsd) (lsdBits e)
-  pub state : o .state ≡ readerAfter r e
+pub record BackInC (e : Entry) (r : Reader) (a : ReadAnswer) (next : Reader) (out : Buffers) : Type 0 where
+  pub accepted : (a .kind ≡ 0) × (a .number ≡ 0)
+  pub read : a .block .standing ≡ standingNumber Read
+  pub kind : a .block .reading ≡ readingKind (readingIn (wordDue (e .found)) (Code (wordSent e)))
+  pub code : a .block .code ≡ readingCode (readingIn (wordDue (e .found)) (Code (wordSent e)))
+  pub first : r .before ≡ 0 → a .block .verdict ≡ verdictNumber None
+  pub good : Agrees (e .found) r → a .block .verdict ≡ verdictNumber Good
+  pub streams : out ≡ handedBack e
+  pub state : next ≡ readerAfter r e
 
 abbrev pub ReadBackInC : Type 0
-ReadBackInC = (e : Entry) (r : Reader) → Back e r → (b : Buffers) (o : ReadOutcome) (out : Buffers) → lengths b ≡ streamOctets
-    → ReadTold r (blockSent e) b o out → BackInC e r o out
+ReadBackInC = (e : Entry) (r : Reader) → Back e r → (b : Buffers) (a : ReadAnswer) (next : Reader) (out : Buffers) → lengths b ≡ streamOctets
+    → ReadTold r (blockSent e) b a next out → BackInC e r a next out

@@ -7,3 +7,4 @@ pub mod EntryPoints
 pub mod Lent
 pub mod Figures
 pub mod NotEnough
+pub mod Saved

@@ -9,7 +9,7 @@ use lib.ListN.{length, take, drop, length-drop}
 use lib.Seq.{length-take-le}
 use borrow.Author.Tests.{ltb-false, le-ltb, not-false}
 use Rattle.bits.proofs.Settled.{settled}
-use Rattle.bits.proofs.Every.{or-left-false, or-right-false}
+use Rattle.bits.proofs.BoolLaws.{or-left-false, or-right-false}
 use Rattle.refusals.specs.declared.Ruling.{Ruling}
 use Rattle.refusals.specs.declared.Ruling.the-variants.{Refuse, Accept}
 use Rattle.refusals.proofs.RowLaws.{none-given}

@@ -9,10 +9,10 @@ use lib.Dec.{eqb}
 use borrow.Author.Tests.{eqb-true}
 use lib.ListN.{length, getD, take, drop, length-append, length-drop, List·getD-append}
 use lib.Seq.{getD-drop, getD-take, getD-append-add, length-take-le}
-use Rattle.bits.specs.Bits.{odd, lowBits, digit, bitsOf}
-use Rattle.bits.proofs.BitLaws.{odd-above, odd-digit}
+use Rattle.bits.specs.Bits.{odd, lowBits, scBit, digit, bitsOf}
+use Rattle.bits.proofs.BitLaws.{odd-above, odd-digit, sc-is}
 use Rattle.bits.proofs.PackLaws.{length-octets}
-use Rattle.bits.proofs.Every.{below}
+use Rattle.bits.proofs.BoolLaws.{below}
 use Rattle.bas.specs.Words.{wordBits, lineOrder}
 use Rattle.bas.proofs.WordLaws.{length-line}
 use Rattle.modes.specs.Numbers.{evenFrame, oddFrame}
@@ -47,24 +47,24 @@ length-service h =
 
 -- ---- bits of the channel, one by one
 channel-ext : (n at : ℕ) (line : List ℕ) (bs : List Bool) → length bs ≡ n
-    → ((k : ℕ) → k < n → odd (getD line (at + k) 0) ≡ getD bs k true) → channelBits n at line ≡ bs
+    → ((k : ℕ) → k < n → scBit (getD line (at + k) 0) ≡ getD bs k true) → channelBits n at line ≡ bs
 unfolding channelBits
 channel-ext zero at line [] h f = refl
 channel-ext zero at line (b ∷ bs) h f = absurd (suc-ne-zero _ h)
 channel-ext (suc n) at line [] h f = absurd (suc-ne-zero _ (sym h))
 channel-ext (suc n) at line (b ∷ bs) h f =
-    ap₂ _∷_ (ap (λ (k : ℕ). odd (getD line k 0)) (sym (add-zero at)) ∙ f 0 (omega arith))
+    ap₂ _∷_ (ap (λ (k : ℕ). scBit (getD line k 0)) (sym (add-zero at)) ∙ f 0 (omega arith))
     (channel-ext n (at + 1) line bs (suc-inj h) (λ k l.
     let e : at + 1 + k ≡ at + suc k = omega arith in
-    ap (λ (j : ℕ). odd (getD line j 0)) e ∙ f (suc k) (omega arith)))
+    ap (λ (j : ℕ). scBit (getD line j 0)) e ∙ f (suc k) (omega arith)))
 
 -- the SC bit of octet o + 1 of a frame, among the first sixteen
-frame-sc : (p : Layout) (bs vs ds : List Bool) (o : ℕ) → Apart p → o < 16 → odd (getD (frameBy p (byOwner bs vs ds)) o 0) ≡ getD bs o true
+frame-sc : (p : Layout) (bs vs ds : List Bool) (o : ℕ) → Apart p → o < 16 → scBit (getD (frameBy p (byOwner bs vs ds)) o 0) ≡ getD bs o true
 unfolding frameBy
 frame-sc p bs vs ds o h l =
     let s : Streams = byOwner bs vs ds in
     let b : Bool = getD (rest (rowsBy p o ++ columnsBy p) s (channelBy p (o + 1))) 0 true in
-    ap odd (octet-done p s 80 o (h .within) (omega arith) ∙ octet-at p o s refl h)
+    sc-is _ ∙ ap odd (octet-done p s 80 o (h .within) (omega arith) ∙ octet-at p o s refl h)
     ∙ odd-above _ (digit b) ∙ odd-digit b
     ∙ channel-next p o bs vs ds h
     ∙ rw (channel-service p (o + 1) (omega arith), getD-drop o bs 0 true, add-zero o)
@@ -100,9 +100,9 @@ module _ (m : Mode) (h : Header) (mute : Bool) (b : Buffers) where
   even-back =
       channel-ext 16 0 (blockOf m h mute b) (take 16 (serviceBits h)) (length-take-le 16 (serviceBits h) (omega (arith, length-service h)))
       (λ k l.
-      ap (λ (b : List ℕ). odd (getD b (0 + k) 0)) halves
-      ∙ ap (λ (j : ℕ). odd (getD (even ++ odds) j 0)) (zero-add k)
-      ∙ ap odd (List·getD-append even odds 0 k (omega (arith, length-even)))
+      ap (λ (b : List ℕ). scBit (getD b (0 + k) 0)) halves
+      ∙ ap (λ (j : ℕ). scBit (getD (even ++ odds) j 0)) (zero-add k)
+      ∙ ap scBit (List·getD-append even odds 0 k (omega (arith, length-even)))
       ∙ frame-sc p (serviceBits h) vs ds k (apart-of m) l
       ∙ sym (getD-take 16 (serviceBits h) k true l))
 
@@ -110,7 +110,7 @@ module _ (m : Mode) (h : Header) (mute : Bool) (b : Buffers) where
   odd-back =
       channel-ext 16 80 (blockOf m h mute b) (drop 16 (serviceBits h)) (rw (length-drop, length-service h))
       (λ k l.
-      ap (λ (b : List ℕ). odd (getD b (80 + k) 0)) halves
-      ∙ ap (λ (n : ℕ). odd (getD (even ++ odds) (n + k) 0)) (sym length-even)
-      ∙ ap odd (getD-append-add even odds k 0)
+      ap (λ (b : List ℕ). scBit (getD b (80 + k) 0)) halves
+      ∙ ap (λ (n : ℕ). scBit (getD (even ++ odds) (n + k) 0)) (sym length-even)
+      ∙ ap scBit (getD-append-add even odds k 0)
       ∙ frame-sc p (drop 16 (serviceBits h)) (drop (80 * p .width) vs) (drop (80 * p .columns + sc p 80) ds) k (apart-of m) l)

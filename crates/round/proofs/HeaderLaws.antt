@@ -8,7 +8,7 @@ use native.Mathlib.Nat.{add-zero}
 use native.Mathlib.Omega.{arith}
 use lib.ListN.{length, getD, take, drop, length-append, length-drop, take-append-drop}
 use lib.Seq.{take-at, drop-at, take-all, length-take-le}
-use Rattle.bits.specs.Bits.{odd, lowBits, number, xors}
+use Rattle.bits.specs.Bits.{scBit, lowBits, number, xors}
 use Rattle.bits.proofs.BitLaws.{number-fits}
 use Rattle.bas.specs.Words.{wordBits, wordOf, lineOrder}
 use Rattle.bas.specs.Reading.{weight, readingOf}
@@ -30,7 +30,7 @@ channel-front : (n m at : ℕ) (line : List ℕ) → n ≤ m → channelBits n a
 unfolding channelBits
 channel-front zero m at line h = refl
 channel-front (suc n) zero at line h = absurd (omega arith)
-channel-front (suc n) (suc m) at line h = ap (λ (l : List Bool). odd (getD line at 0) ∷ l) (channel-front n m (at + 1) line (omega arith))
+channel-front (suc n) (suc m) at line h = ap (λ (l : List Bool). scBit (getD line at 0) ∷ l) (channel-front n m (at + 1) line (omega arith))
 
 channel-part : (k n m at : ℕ) (line : List ℕ) → k + n ≤ m → channelBits n (at + k) line ≡ take n (drop k (channelBits m at line))
 unfolding channelBits

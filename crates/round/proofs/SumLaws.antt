@@ -13,6 +13,7 @@ use lib.Seq.{getD-drop, getD-take, getD-append-add}
 use Rattle.bits.specs.Bits.{lowBits, number, digit, bitsOf}
 use Rattle.crc.specs.Crc.{summed, blockCrcOf}
 use Rattle.crc.proofs.CrcLaws.{crc-agree}
+use Rattle.bits.proofs.BitLaws.{same-without}
 use Rattle.bits.proofs.PackLaws.{length-octets}
 use Rattle.bas.specs.Words.{wordBits, lineOrder}
 use Rattle.modes.specs.declared.Mode.{Mode}
@@ -91,10 +92,10 @@ module _ (p : Layout) (h : Apart p) (vs ds : List Bool) where
     same-odd (suc zero) l = same-octet bs cs 1 l (λ i. refl)
     same-odd (suc (suc zero)) l = same-octet bs cs 2 l (λ i. refl)
     same-odd (suc (suc (suc zero))) l = same-octet bs cs 3 l (λ i. refl)
-    same-odd (suc (suc (suc (suc zero)))) l = ap (λ (n : ℕ). n * 2) (same-above bs cs 4 l)
-    same-odd (suc (suc (suc (suc (suc zero))))) l = ap (λ (n : ℕ). n * 2) (same-above bs cs 5 l)
-    same-odd (suc (suc (suc (suc (suc (suc zero)))))) l = ap (λ (n : ℕ). n * 2) (same-above bs cs 6 l)
-    same-odd (suc (suc (suc (suc (suc (suc (suc zero))))))) l = ap (λ (n : ℕ). n * 2) (same-above bs cs 7 l)
+    same-odd (suc (suc (suc (suc zero)))) l = same-without _ _ (same-above bs cs 4 l)
+    same-odd (suc (suc (suc (suc (suc zero))))) l = same-without _ _ (same-above bs cs 5 l)
+    same-odd (suc (suc (suc (suc (suc (suc zero)))))) l = same-without _ _ (same-above bs cs 6 l)
+    same-odd (suc (suc (suc (suc (suc (suc (suc zero))))))) l = same-without _ _ (same-above bs cs 7 l)
     same-odd (suc (suc (suc (suc (suc (suc (suc (suc k)))))))) l =
         let at = suc (suc (suc (suc (suc (suc (suc (suc k))))))) in
         ap (summed (80 + at)) (same-octet bs cs at l (λ i. refl))

@@ -9,6 +9,7 @@ use lib.ListN.{length, length-append}
 use borrow.Author.Tests.{ltb-false}
 use Rattle.buffers.specs.Lengths.{lineOctets}
 use Rattle.bits.specs.Bits.{digit}
+use Rattle.bits.proofs.BoolLaws.{digit-low}
 use Rattle.text.specs.Over.{Written}
 use Rattle.text.proofs.OverLaws.{written-none, written-then, written-length}
 use Rattle.track.specs.State.{stateInRange}
@@ -24,8 +25,8 @@ use Rattle.recording.specs.declared.Answer.{Answer}
 use Rattle.recording.specs.declared.Answer.the-variants.{Block, Place, End, Refused}
 use Rattle.recording.specs.declared.Stepped.{Stepped}
 use Rattle.recording.proofs.StepLaws.{reader-in-range, place-inside}
-use Rattle.lines.specs.Lines.{numberLine, blockLine, lineText}
-use Rattle.lines.proofs.LineLaws.{block-length, number-length, words-length}
+use Rattle.wording.specs.Lines.{numberLine, blockLine, lineText}
+use Rattle.wording.proofs.LineLaws.{block-length, number-length, words-length}
 use Rattle.scribe.specs.Listing.{isLast, countAfter, linesFrom, begun, listingBy, listingOf}
 
 -- ---- one step more: what was written, its line, and the lines to come
@@ -51,7 +52,7 @@ count-low (Place p) n = omega arith
 count-low (End left) n = omega arith
 count-low (Refused why) n = omega arith
 
--- ---- a listing under way: so many turns made, and what they wrote
+-- ---- a listing under way: `turn` turns are made, and what they wrote is `done`
 pub record Going (recording : List ℕ) (at start : ℕ) (was text : List ℕ) (end place : ℕ) (lost : Bool) (s : Reader) (count turn : ℕ) : Type 0 where
   pub range : stateInRange s ≡ true
   pub inside : place ≤ length recording
@@ -130,10 +131,6 @@ ends-after line text (done, left, e) =
 
 left-ends : (left : ℕ) → Ends (numberLine "left " left ++ [])
 left-ends left = ([], left, append-nil (numberLine "left " left))
-
-digit-low : (b : Bool) → digit b ≤ 1
-digit-low true = omega arith
-digit-low false = omega arith
 
 -- n steps are enough, wherever the walk stands: each block is lineOctets octets on, and each place found follows a lost block
 abbrev Enough : List ℕ → ℕ → Type 0

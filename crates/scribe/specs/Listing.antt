@@ -12,7 +12,7 @@ use Rattle.refusals.specs.Numbers.{numberOf}
 use Rattle.recording.specs.Walk.{answerHere, readerBy, placeBy, lostBy}
 use Rattle.recording.specs.declared.Answer.{Answer}
 use Rattle.recording.specs.declared.Answer.the-variants.{Block, Place, End, Refused}
-use Rattle.lines.specs.Lines.{numberLine, lineText}
+use Rattle.wording.specs.Lines.{numberLine, lineText}
 
 abbrev pub isLast : Answer → Bool
 isLast (Block report) = false

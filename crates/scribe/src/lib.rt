@@ -57,7 +57,7 @@ fn put_walk(text: &mut [u8], at: usize, recording: &[u8], start: usize) -> usize
     for turn in 0..recording.len() {
         let stepped = step_on(recording, place, lost, s);
         let answer = stepped.answer;
-        a = lines::put_answer(text, a, count, answer);
+        a = wording::put_answer(text, a, count, answer);
         if is_last(answer) {
             return a;
         }
@@ -77,10 +77,10 @@ pub fn list(recording: &[u8], text: &mut [u8]) -> usize
     let found = search::search(recording, 0);
     match found {
         Found::Place(p) => {
-            let at = lines::put_line(text, 0, b"found ", p);
+            let at = wording::put_line(text, 0, b"found ", p);
             put_walk(text, at, recording, p)
         }
-        Found::Refused(why) => lines::put_line(
+        Found::Refused(why) => wording::put_line(
             text,
             0,
             b"none ",

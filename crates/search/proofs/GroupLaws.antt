@@ -11,9 +11,9 @@ use lib.Dec.{eqb}
 use lib.ListN.{length, getD, drop, set, length-drop}
 use lib.Seq.{drop-drop, getD-drop, getD-set-same, getD-set-other}
 use borrow.Author.Tests.{not-true, ne-eqb}
-use Rattle.bits.specs.Bits.{odd, lowBits, number}
-use Rattle.bits.proofs.BitLaws.{number-bound, number-fits}
-use Rattle.bits.proofs.Every.{and-left, and-right, everyBelow}
+use Rattle.bits.specs.Bits.{odd, lowBits, scBit, number}
+use Rattle.bits.proofs.BitLaws.{number-bound, number-fits, sc-is}
+use Rattle.bits.proofs.BoolLaws.{and-left, and-right, everyBelow}
 use Rattle.search.specs.Finding.{aligned}
 use Rattle.search.specs.Groups.{noneOf, firstFrom, plane, EachBit, Folded}
 use Rattle.search.proofs.PlaceLaws.{first-step}
@@ -64,7 +64,7 @@ passed-to-the-end n first at recording h w v e =
 
 -- where SC is the same, the same places have alignment
 none-same : (n : ℕ) (xs ys : List ℕ) → n + 167 ≤ length xs → n + 167 ≤ length ys
-    → ((j : ℕ) → j < n + 167 → odd (getD xs j 0) ≡ odd (getD ys j 0)) → noneOf n xs ≡ noneOf n ys
+    → ((j : ℕ) → j < n + 167 → scBit (getD xs j 0) ≡ scBit (getD ys j 0)) → noneOf n xs ≡ noneOf n ys
 unfolding noneOf
 none-same zero xs ys h k same = refl
 none-same (suc n) xs ys h k same =
@@ -72,7 +72,7 @@ none-same (suc n) xs ys h k same =
     (none-same n xs ys (omega arith) (omega arith) (λ j w. same j (omega arith)))
     (ap not
     (aligned-same (drop n xs) (drop n ys) (omega (arith, length-drop n xs)) (omega (arith, length-drop n ys))
-    (λ j w. ap odd (getD-drop n xs j 0) ∙ same (n + j) (omega arith) ∙ ap odd (sym (getD-drop n ys j 0)))))
+    (λ j w. ap scBit (getD-drop n xs j 0) ∙ same (n + j) (omega arith) ∙ ap scBit (sym (getD-drop n ys j 0)))))
 
 every-same : (n : ℕ) (p q : ℕ → Bool) → ((k : ℕ) → k < n → p k ≡ q k) → everyBelow n p ≡ everyBelow n q
 every-same zero p q same = refl
@@ -116,16 +116,16 @@ folded-none k bits part h l w folded =
     none-same 256 (plane k bits) (drop (256 * k) part)
     (omega (arith, length-plane k bits))
     (omega (arith, length-drop (256 * k) part))
-    (λ j v. ap odd (plane-at k bits j) ∙ folded j (omega arith) k h ∙ ap odd (sym (getD-drop (256 * k) part j 0)))
+    (λ j v. sc-is _ ∙ ap odd (plane-at k bits j) ∙ folded j (omega arith) k h ∙ ap scBit (sym (getD-drop (256 * k) part j 0)))
 
 -- the octets that follow a part begin the next one; what follows the last part has the bit above
 pub one-part-further : (bits r octet i : ℕ) (part : List ℕ) → octet ≡ getD part (i + 2048) 0
-    → EachBit bits (λ k. odd (getD part (256 * k + i) 0)) → odd (r / 2 ^ 7) ≡ odd octet
-    → ((k : ℕ) → k < 7 → odd (r / 2 ^ k) ≡ odd (bits / 2 ^ (k + 1))) → EachBit r (λ k. odd (getD part (256 * k + (i + 256)) 0))
+    → EachBit bits (λ k. scBit (getD part (256 * k + i) 0)) → odd (r / 2 ^ 7) ≡ scBit octet
+    → ((k : ℕ) → k < 7 → odd (r / 2 ^ k) ≡ odd (bits / 2 ^ (k + 1))) → EachBit r (λ k. scBit (getD part (256 * k + (i + 256)) 0))
 one-part-further bits r octet i part o first highest below k h =
-    let sc : ℕ → Bool = λ j. odd (getD part j 0) in
+    let sc : ℕ → Bool = λ j. scBit (getD part j 0) in
     ⊎-elim
-    (λ (e : k ≡ 7). ap (λ (j : ℕ). odd (r / 2 ^ j)) e ∙ highest ∙ ap odd o ∙ ap sc (omega arith))
+    (λ (e : k ≡ 7). ap (λ (j : ℕ). odd (r / 2 ^ j)) e ∙ highest ∙ ap scBit o ∙ ap sc (omega arith))
     (λ (w : k < 7). below k w ∙ first (k + 1) (omega arith) ∙ ap sc (omega arith))
     (eq-or-lt-of-le (omega arith))
 

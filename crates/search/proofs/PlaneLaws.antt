@@ -10,9 +10,9 @@ use lib.ListN.{length, getD, length-map, List·getD-map}
 use lib.Dec.{eqb}
 use lib.Pow.{field, high, shr-shr, mod-mod-pow}
 use lib.Bits.{bitXor}
-use Rattle.bits.specs.Bits.{odd}
-use Rattle.bits.proofs.BitLaws.{bit-xor, odd-above, odd-digit, digit-odd}
-use Rattle.bits.proofs.Every.{below}
+use Rattle.bits.specs.Bits.{odd, scBit}
+use Rattle.bits.proofs.BitLaws.{bit-xor, odd-above, odd-digit, digit-odd, sc-is}
+use Rattle.bits.proofs.BoolLaws.{below}
 use Rattle.search.specs.Groups.{EachBit, plane}
 
 -- 255 is an octet of ones
@@ -41,11 +41,11 @@ plane-0 (x ∷ xs) = ap₂ _∷_ (div-one x) (plane-0 xs)
 pub low-bit : (r : ℕ) (says : List ℕ → Bool) (part : List ℕ) → EachBit r (λ k. says (plane k part)) → odd r ≡ says part
 low-bit r says part each = ap odd (sym (div-one r)) ∙ each 0 (omega arith) ∙ ap says (plane-0 part)
 
--- ---- bits that go up by one, with the lowest bit of another octet below them
-lowest : (octet : ℕ) → odd (octet % 2) ≡ odd octet
-lowest octet = ap odd (sym (digit-odd octet)) ∙ odd-digit (odd octet)
+-- ---- bits that go up by one, with the SC bit of another octet below them
+lowest : (octet : ℕ) → odd (octet % 2) ≡ scBit octet
+lowest octet = ap odd (sym (digit-odd octet)) ∙ odd-digit (odd octet) ∙ sym (sc-is octet)
 
-pub bit-below : (bits octet : ℕ) → odd (bits % 128 * 2 + octet % 2) ≡ odd octet
+pub bit-below : (bits octet : ℕ) → odd (bits % 128 * 2 + octet % 2) ≡ scBit octet
 bit-below bits octet = odd-above (bits % 128) (octet % 2) ∙ lowest octet
 
 low-kept : (bits k : ℕ) → k < 7 → odd (bits % 128 / 2 ^ k) ≡ odd (bits / 2 ^ k)
@@ -71,8 +71,8 @@ one-below n bits r says h lowest above before zero w = ap odd (div-one r) ∙ lo
 one-below n bits r says h lowest above before (suc k) w =
     ap (λ (j : ℕ). odd (r / 2 ^ j)) (sym (add-one k)) ∙ above k (omega arith) ∙ before k (omega arith) ∙ ap says (add-one k)
 
--- ---- bits that go down by one, with the lowest bit of another octet above them
-pub bit-above : (bits octet : ℕ) → bits < 256 → odd ((bits / 2 + octet % 2 * 128) / 2 ^ 7) ≡ odd octet
+-- ---- bits that go down by one, with the SC bit of another octet above them
+pub bit-above : (bits octet : ℕ) → bits < 256 → odd ((bits / 2 + octet % 2 * 128) / 2 ^ 7) ≡ scBit octet
 bit-above bits octet h =
     let up : (bits / 2 + octet % 2 * 128) / 128 ≡ octet % 2 = omega arith in
     ap odd up ∙ lowest octet

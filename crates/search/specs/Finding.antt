@@ -29,7 +29,7 @@ firstOf (suc n) at recording = cond (aligned (drop at recording)) (Place at) (fi
 unfoldable pub badLength : List ℕ → ℕ → Bool
 badLength recording start = ltb 65536 (length recording) || ltb (length recording - start) 168
 
--- the search begins at a given octet of the recording; smaller number first
+-- the search begins at a given octet of the recording; row 9 ranks before row 10, which is what the search itself finds (DECISIONS F54)
 unfoldable pub searchOf : List ℕ → ℕ → Found
 searchOf recording start =
     cond (badLength recording start) (Refused BadRecording) (firstOf (length recording - start) start recording)

@@ -9,7 +9,7 @@ use lib.Pow.{pow-mono, high, low}
 use lib.ListN.{length, getD}
 use lib.Bits.{bitXor}
 use lib.Count.{onesIn, ones, ones-cat}
-use Rattle.bits.specs.Bits.{odd, lowBits, octetBits, digit, number, xors}
+use Rattle.bits.specs.Bits.{odd, lowBits, octetBits, scBit, digit, number, xors}
 use Rattle.bits.proofs.BitLaws.{number-append, number-bound, number-fits, lowBits-xor, lowBits-back, lowBits-two}
 use Rattle.bas.specs.Words.{lineOrder}
 use Rattle.bas.specs.Reading.{weight}
@@ -28,7 +28,7 @@ channel-parts zero k at line = ap₂ (λ (i j : ℕ). channelBits i j line) (zer
 channel-parts (suc n) k at line =
     let e : at + 1 + n ≡ at + suc n = omega arith in
     ap (λ (i : ℕ). channelBits i at line) (suc-add n k)
-    ∙ ap (λ (l : List Bool). odd (getD line at 0) ∷ l)
+    ∙ ap (λ (l : List Bool). scBit (getD line at 0) ∷ l)
     (channel-parts n k (at + 1) line ∙ ap (λ (j : ℕ). channelBits n (at + 1) line ++ channelBits k j line) e)
 
 channel-lt : (n at : ℕ) (line : List ℕ) → number (channelBits n at line) < 2 ^ n
@@ -48,19 +48,19 @@ last-of n k at line =
     ap (λ (x : ℕ). x % 2 ^ k) (channel-number n k at line) ∙ low (number (channelBits n at line)) k (channel-lt k (at + n) line)
 
 -- one bit more; seven at most leave room for it in an octet
-one-bit : (at : ℕ) (line : List ℕ) → number (channelBits 1 at line) ≡ digit (odd (getD line at 0))
+one-bit : (at : ℕ) (line : List ℕ) → number (channelBits 1 at line) ≡ digit (scBit (getD line at 0))
 unfolding channelBits number
 one-bit at line = rw (mul-one, add-zero)
 
 pub channel-turn : (n at : ℕ) (line : List ℕ)
-    → number (channelBits n at line) * 2 + digit (odd (getD line (at + n) 0)) ≡ number (channelBits (n + 1) at line)
+    → number (channelBits n at line) * 2 + digit (scBit (getD line (at + n) 0)) ≡ number (channelBits (n + 1) at line)
 channel-turn n at line = sym (channel-number n 1 at line ∙ ap (λ (x : ℕ). number (channelBits n at line) * 2 + x) (one-bit (at + n) line))
 
 pub channel-small : (n at : ℕ) (line : List ℕ) → n ≤ 7 → number (channelBits n at line) < 128
 channel-small n at line h = lt-of-lt-of-le (channel-lt n at line) (pow-mono h)
 
 -- the alignment word as an octet, and how many of its bits are wrong
-alignment-number : (line : List ℕ) (row one : ℕ) → row ≡ number (channelBits 8 1 line) → one ≡ digit (odd (getD line 81 0))
+alignment-number : (line : List ℕ) (row one : ℕ) → row ≡ number (channelBits 8 1 line) → one ≡ digit (scBit (getD line 81 0))
     → row / 2 * 2 + one ≡ number (alignmentBits line)
 unfolding alignmentBits
 alignment-number line row one e f =
@@ -88,7 +88,7 @@ ones-number (b ∷ bs) = ones-cat (length bs) (digit b) (number bs) (number-boun
 pub octet-weight : (octet : ℕ) → octet < 256 → ones octet ≡ weight (octetBits octet)
 octet-weight octet h = ap ones (sym (number-fits 8 octet h)) ∙ ones-number (octetBits octet)
 
-pub wrong-are : (line : List ℕ) (row one : ℕ) → row ≡ number (channelBits 8 1 line) → one ≡ digit (odd (getD line 81 0))
+pub wrong-are : (line : List ℕ) (row one : ℕ) → row ≡ number (channelBits 8 1 line) → one ≡ digit (scBit (getD line 81 0))
     → weight (octetBits (bitXor (row / 2 * 2 + one) 55)) ≡ wrongBits line
 unfolding wrongBits
 wrong-are line row one e f =

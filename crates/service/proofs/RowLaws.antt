@@ -1,6 +1,6 @@
 -- Laws of eight octets' SC bits that are gathered at once: of eight octets as one number each lowest bit comes down to the lowest octet.
 use mathlib.Core.Path.{_≡_, refl, sym, ap, ap₂, _∙_}
-use mathlib.Core.Bool.{Bool, true, false, _&&_, _||_}
+use mathlib.Core.Bool.{Bool, _&&_, _||_, or-false}
 use mathlib.Core.List.{List, [], _∷_}
 use Prim.Native.Nat.{ℕ, zero, suc, _+_, _*_, _/_, _%_, _^_}
 use native.Mathlib.Nat.{add-zero}
@@ -9,8 +9,8 @@ use lib.Bits.{bitAnd, bitOr, and-comm}
 use lib.Dec.{eqb}
 use lib.ListN.{getD}
 use lib.Pow.{shr-shr, high}
-use Rattle.bits.specs.Bits.{odd, lowBits, number, numberAt, eightAt}
-use Rattle.bits.proofs.BitLaws.{bit-or, bit-and, number-lowBits}
+use Rattle.bits.specs.Bits.{odd, lowBits, scBit, number, numberAt, eightAt}
+use Rattle.bits.proofs.BitLaws.{bit-or, bit-and, number-lowBits, sc-is}
 use Rattle.bits.proofs.EightLaws.{numberAt-lt, number-parts}
 use Rattle.service.specs.Channel.{channelBits}
 
@@ -20,13 +20,13 @@ lowest zero x = []
 lowest (suc n) x = odd (x / 2 ^ (8 * n)) ∷ lowest n x
 
 -- the octet that has n others below it
-octet-above : (line : List ℕ) (at i n : ℕ) → odd (numberAt line at (suc i + n) / 2 ^ (8 * n)) ≡ odd (getD line (at + i) 0)
+octet-above : (line : List ℕ) (at i n : ℕ) → odd (numberAt line at (suc i + n) / 2 ^ (8 * n)) ≡ scBit (getD line (at + i) 0)
 unfolding odd numberAt
 octet-above line at i n =
     let last : numberAt line at (suc i) % 2 ≡ getD line (at + i) 0 % 2 = omega arith in
     ap (λ (y : ℕ). odd (y / 2 ^ (8 * n))) (number-parts line at (suc i) n)
     ∙ ap odd (high (numberAt line at (suc i)) (8 * n) (numberAt-lt line (at + suc i) n))
-    ∙ ap (λ (r : ℕ). eqb r 1) last
+    ∙ ap (λ (r : ℕ). eqb r 1) last ∙ sym (sc-is (getD line (at + i) 0))
 
 channel-lowest : (line : List ℕ) (at i n : ℕ) → channelBits n (at + i) line ≡ lowest n (numberAt line at (i + n))
 unfolding channelBits lowest
@@ -64,10 +64,6 @@ gathered x = over 28 (over 14 (over 7 (bitAnd x each)))
 odd-gathered : (x j : ℕ)
     → odd (gathered x / 2 ^ j) ≡ either 28 (either 14 (either 7 (λ (i : ℕ). odd (each / 2 ^ i) && odd (x / 2 ^ i)))) j
 odd-gathered x = odd-over 28 _ _ (odd-over 14 _ _ (odd-over 7 _ _ (odd-each x)))
-
-or-false : (b : Bool) → (b || false) ≡ b
-or-false true = refl
-or-false false = refl
 
 gathered-bits : (x : ℕ) → lowBits 8 (gathered x) ≡ lowest 8 x
 unfolding lowBits lowest odd

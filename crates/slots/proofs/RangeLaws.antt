@@ -3,7 +3,7 @@ use mathlib.Core.Path.{_≡_, refl, _∙_}
 use mathlib.Core.Bool.{Bool, true, false, not, cond}
 use Prim.Native.Nat.{ℕ, _<_}
 use borrow.Author.Tests.{not-true}
-use Rattle.bits.proofs.Every.{below}
+use Rattle.bits.proofs.BoolLaws.{below}
 use Rattle.modes.specs.Table.{audioTable, lsdTable, beside, audioPlaces, lsdPlaces}
 use Rattle.modes.specs.Owners.{holds, heldBy, some, clash, overlaps}
 use Rattle.modes.specs.Modes.{audioOff, lsdOff, off, withAudio, withLsd, inRange}

@@ -7,7 +7,7 @@ use Rattle.modes.specs.declared.Mode.{Mode}
 use Rattle.codes.specs.Codes.{attribute}
 use Rattle.codes.specs.Carried.{readerCarries}
 use Rattle.codes.specs.Commands.{commandOf, followed}
-use Rattle.slots.specs.Slots.{standing}
+use Rattle.slots.specs.Slots.{dueNow}
 use Rattle.slots.specs.declared.Due.{Due}
 use Rattle.slots.specs.declared.Due.the-variants.{Plain, AnItem, N, Words}
 use Rattle.slots.specs.declared.Reading.{Reading}
@@ -29,7 +29,7 @@ codeReading N code = MessageWord code
 codeReading (Words left) code = MessageWord code
 
 unfoldable pub readingIn : Due → Word → Reading
-readingIn due (Word.Code code) = codeReading (standing due) code
+readingIn due (Word.Code code) = codeReading (dueNow due) code
 readingIn due Word.Unreadable = Unreadable
 
 -- items and message words are no commands, and a word that is not followed changes nothing

@@ -1,6 +1,6 @@
 -- Document 01, 'Slots': what each word makes of the word after it.
 use Prim.Native.Nat.{ℕ, _-_}
-use mathlib.Core.Bool.{cond}
+use mathlib.Core.Bool.{Bool, true, false, cond}
 use lib.Dec.{eqb}
 use Rattle.bas.specs.declared.Word.{Word}
 use Rattle.bas.specs.declared.Word.the-variants.{Code, Unreadable}
@@ -21,11 +21,18 @@ dueBy Message = N
 abbrev pub wordsDue : ℕ → Due
 wordsDue words = cond (eqb words 0) Plain (Words words)
 
-abbrev pub standing : Due → Due
-standing Plain = Plain
-standing AnItem = AnItem
-standing N = N
-standing (Words left) = wordsDue left
+abbrev pub dueNow : Due → Due
+dueNow Plain = Plain
+dueNow AnItem = AnItem
+dueNow N = N
+dueNow (Words left) = wordsDue left
+
+-- an item is due
+abbrev pub isItem : Due → Bool
+isItem Plain = false
+isItem AnItem = true
+isItem N = false
+isItem (Words left) = false
 
 -- an unreadable word fills its slot; if it was N, N is taken as 255
 abbrev pub lengthIn : Word → ℕ
@@ -38,14 +45,14 @@ openingIn (Code code) = openingOf code
 openingIn Unreadable = Nothing
 
 -- one word per block: what is due after it. An item opens nothing, whatever it says
-abbrev pub dueAfterStanding : Due → Word → Due
-dueAfterStanding Plain word = dueBy (openingIn word)
-dueAfterStanding AnItem word = Plain
-dueAfterStanding N word = wordsDue (lengthIn word)
-dueAfterStanding (Words left) word = wordsDue (left - 1)
+abbrev pub dueAfterNow : Due → Word → Due
+dueAfterNow Plain word = dueBy (openingIn word)
+dueAfterNow AnItem word = Plain
+dueAfterNow N word = wordsDue (lengthIn word)
+dueAfterNow (Words left) word = wordsDue (left - 1)
 
 unfoldable pub dueAfter : Due → Word → Due
-dueAfter due word = dueAfterStanding (standing due) word
+dueAfter due word = dueAfterNow (dueNow due) word
 
 -- how a state holds what is due; every value of its two numbers says something
 abbrev slot : ℕ → ℕ → Slot

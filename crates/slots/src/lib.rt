@@ -1,6 +1,6 @@
 // What a BAS word means where it stands, and what the word after it is due to be (document 01, 'Slots' and 'Reading a block').
 ghost use mathlib.Core.Path.{_≡_};
-ghost use Rattle.slots.specs.Slots.{dueBy, standing, wordsDue, lengthIn, openingIn, dueAfter, slotOf, dueOf};
+ghost use Rattle.slots.specs.Slots.{dueBy, dueNow, wordsDue, lengthIn, openingIn, dueAfter, slotOf, dueOf};
 ghost use Rattle.slots.specs.Readings.{plainReading, itemReading, codeReading, readingIn, obeyed};
 use bas::Word;
 use codes::Opening;
@@ -42,8 +42,8 @@ fn words_due(words: u8) -> Due
 }
 
 // What is due, once a message without words left is over.
-pub fn stand(due: Due) -> Due
-    ensures { λ r. ⌜ r ≡ standing due ⌝ }
+pub fn due_now(due: Due) -> Due
+    ensures { λ r. ⌜ r ≡ dueNow due ⌝ }
 {
     match due {
         Due::Plain => Due::Plain,
@@ -166,7 +166,7 @@ pub fn reading_in(due: Due, word: Word) -> Reading
     ensures { λ r. ⌜ r ≡ readingIn due word ⌝ }
 {
     match word {
-        Word::Code(code) => code_reading(stand(due), code),
+        Word::Code(code) => code_reading(due_now(due), code),
         Word::Unreadable => Reading::Unreadable,
     }
 }

@@ -12,7 +12,7 @@ use lib.Dec.{eqb, leb}
 use lib.ListN.{length, getD, take, drop, length-append, length-replicate}
 use lib.Seq.{drop-drop, take-add, drop-cons}
 use Rattle.bits.specs.Bits.{bitsOf, octetBits}
-use Rattle.bits.proofs.Every.{and-left, and-right}
+use Rattle.bits.proofs.BoolLaws.{and-left, and-right}
 use Rattle.bits.proofs.RunLaws.{drop-bitsOf, run-left, length-octet}
 use Rattle.modes.specs.declared.Owner.{Owner}
 use Rattle.modes.specs.declared.Owner.the-variants.{Service, Voice, Lsd, Nobody}

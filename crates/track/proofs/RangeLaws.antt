@@ -7,7 +7,7 @@ use native.Mathlib.Omega.{arith}
 use lib.Dec.{eqb, leb}
 use borrow.Author.Tests.{eqb-false, leb-true, le-leb}
 use Rattle.crc.proofs.CrcLaws.{crc-low}
-use Rattle.bits.proofs.Every.{and-left, and-right}
+use Rattle.bits.proofs.BoolLaws.{and-left, and-right}
 use Rattle.modes.specs.Numbers.{following}
 use Rattle.modes.specs.Modes.{audioOff, lsdOff, off, mode, inRange}
 use Rattle.modes.proofs.ModeLaws.{following-low, in-range, off-ranged}

@@ -7,7 +7,7 @@ use Rattle.bas.specs.declared.Word.{Word}
 use Rattle.modes.specs.Numbers.{following}
 use Rattle.modes.specs.declared.BlockNumber.{BlockNumber}
 use Rattle.modes.specs.declared.Mode.{Mode}
-use Rattle.slots.specs.Slots.{standing, dueAfter, dueOf}
+use Rattle.slots.specs.Slots.{dueNow, dueAfter, dueOf}
 use Rattle.slots.specs.Readings.{readingIn}
 use Rattle.slots.specs.declared.Due.{Due}
 use Rattle.slots.specs.declared.Due.the-variants.{Plain}
@@ -35,7 +35,7 @@ wrongRun s g = counted (s .wrong) (eqb (g .wrong) 0)
 abbrev pub modeBefore : Reader → Mode
 modeBefore s = cond (eqb (s .wrong) 0) (s .mode) (s .kept)
 
--- what is kept of it: while the words are right, the mode in force
+-- what is kept of it: while the words are right, the mode in force (DECISIONS R26)
 abbrev pub keptAfter : Reader → ℕ → Mode → Mode
 keptAfter s wrong m = cond (eqb wrong 0) m (modeBefore s)
 
@@ -65,10 +65,10 @@ abbrev pub wordRead : Reader → Word → Reading
 wordRead s word = cond (known s) (readingIn (dueOf (s .slot)) word) NotRead
 
 abbrev pub dueRead : Reader → Word → Due
-dueRead s word = cond (known s) (dueAfter (dueOf (s .slot)) word) (standing (dueOf (s .slot)))
+dueRead s word = cond (known s) (dueAfter (dueOf (s .slot)) word) (dueNow (dueOf (s .slot)))
 
 -- ---- 4. the multiframe place
--- the last six odd-frame first bits: of those before the oldest goes, and this block's comes last
+-- the last six odd-frame first bits: of those before the oldest goes, and this block's comes last, the place known or not (DECISIONS R18)
 abbrev pub sixAfter : ℕ → Bool → ℕ
 sixAfter firsts first = firsts % 32 * 2 + digit first
 

@@ -183,7 +183,7 @@ fn verdict_of(s: Reader, c: u8) -> Verdict
     Verdict::Bad
 }
 
-fn reading_of(s: Reader, word: Word) -> Reading
+fn word_read(s: Reader, word: Word) -> Reading
     ensures { λ r. ⌜ r ≡ wordRead s word ⌝ }
 {
     let slot = s.slot;
@@ -200,7 +200,7 @@ fn due_read(s: Reader, word: Word) -> Due
     let slot = s.slot;
     let block = s.block;
     if block.0 == 0 {
-        return slots::stand(slots::due_of(slot));
+        return slots::due_now(slots::due_of(slot));
     }
     slots::due_after(slots::due_of(slot), word)
 }
@@ -298,7 +298,7 @@ fn report_of(s: Reader, g: Signs) -> Report
     let word = g.word;
     let standing = standing_of(s);
     let verdict = verdict_of(s, g.c);
-    let reading = reading_of(s, word);
+    let reading = word_read(s, word);
     Report {
         standing: standing,
         verdict: verdict,
@@ -313,7 +313,7 @@ fn next_of(s: Reader, g: Signs, run: u8) -> Reader
 {
     let old = s.mode;
     let word = g.word;
-    let mode = slots::obey(reading_of(s, word), old);
+    let mode = slots::obey(word_read(s, word), old);
     let kept = kept_after(s, g.wrong, mode);
     let firsts = six_after(s.firsts, g.first);
     let stands = multiframe_after(s, firsts == 0b001011, due_read(s, word));

@@ -3,12 +3,9 @@
 use std::fmt::Debug;
 
 use crate::contestants::{self, Contestant};
-use crate::forms::{Offer, ReadOutcome, Reader, SearchAnswer, SendAnswer, Sender, LINE, LSD, VOICE};
+use crate::forms::{Offer, ReadAnswer, Reader, SearchAnswer, SendAnswer, Sender, LINE, LISTING, LSD, VOICE};
 use crate::inputs::{Case, Part, Work};
 use model::show::{parting, Octets};
-
-/// Room for every listing: 409 blocks, and a found line after each third of them.
-pub const TEXT: usize = 16_384;
 
 /// What stands in a buffer that a call is to write.
 const BEFORE: u8 = 0xA5;
@@ -18,8 +15,8 @@ const BEFORE: u8 = 0xA5;
 pub enum Left {
     /// A sending call: answer, state, line.
     Send(SendAnswer, Sender, Octets),
-    /// A reading call: outcome, voice, lsd.
-    Read(ReadOutcome, Octets, Octets),
+    /// A reading call: answer, state, voice, lsd.
+    Read(ReadAnswer, Reader, Octets, Octets),
     /// A search.
     Search(SearchAnswer),
     /// A listing.
@@ -34,15 +31,15 @@ pub fn send(contestant: &dyn Contestant, mut state: Sender, offer: &Offer, line_
 }
 
 /// What a reading call leaves.
-pub fn read(contestant: &dyn Contestant, state: Reader, line: &[u8], lengths: [usize; 2]) -> Left {
+pub fn read(contestant: &dyn Contestant, mut state: Reader, line: &[u8], lengths: [usize; 2]) -> Left {
     let [mut voice, mut lsd] = lengths.map(|length| vec![BEFORE; length]);
-    let outcome = contestant.read(state, line, &mut voice, &mut lsd);
-    Left::Read(outcome, Octets(voice), Octets(lsd))
+    let answer = contestant.read(&mut state, line, &mut voice, &mut lsd);
+    Left::Read(answer, state, Octets(voice), Octets(lsd))
 }
 
 /// What a listing leaves.
 pub fn list(contestant: &dyn Contestant, recording: &[u8]) -> Left {
-    let mut text = vec![BEFORE; TEXT];
+    let mut text = vec![BEFORE; LISTING];
     let length = contestant.list(recording, &mut text);
     text.truncate(length);
     Left::List(Octets(text))

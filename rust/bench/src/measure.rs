@@ -4,10 +4,9 @@
 
 use std::hint::black_box;
 
-use crate::check::TEXT;
 use crate::clock::{self, time_of, Run};
 use crate::contestants::Contestant;
-use crate::forms::{LINE, LSD, VOICE};
+use crate::forms::{LINE, LISTING, LSD, VOICE};
 use crate::inputs::{Case, ReadInput, SendInput, Work};
 
 fn send(contestant: &dyn Contestant, inputs: &[SendInput], calls: usize) {
@@ -22,8 +21,9 @@ fn send(contestant: &dyn Contestant, inputs: &[SendInput], calls: usize) {
 fn read(contestant: &dyn Contestant, inputs: &[ReadInput], calls: usize) {
     let (mut voice, mut lsd) = ([0; VOICE], [0; LSD]);
     for input in inputs.iter().cycle().take(calls) {
-        let outcome = contestant.read(input.state, black_box(&input.line), &mut voice, &mut lsd);
-        black_box((&outcome, &voice, &lsd));
+        let mut state = input.state;
+        let answer = contestant.read(&mut state, black_box(&input.line), &mut voice, &mut lsd);
+        black_box((answer, &state, &voice, &lsd));
     }
 }
 
@@ -34,7 +34,7 @@ fn search(contestant: &dyn Contestant, recordings: &[Vec<u8>], calls: usize) {
 }
 
 fn list(contestant: &dyn Contestant, recording: &[u8], calls: usize) {
-    let mut text = [0; TEXT];
+    let mut text = [0; LISTING];
     for _ in 0..calls {
         black_box(contestant.list(black_box(recording), &mut text));
         black_box(&text);

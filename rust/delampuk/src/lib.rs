@@ -4,7 +4,8 @@
 //! A [`Sender`] frames blocks of 20 ms, a [`Reader`] takes them apart again, and a [`Walk`] goes over a recording of the
 //! line block by block. The work is done by a library that is proved: it takes any octets, lengths and saved states, and
 //! refuses by a numbered list ([`Refusal`]) and only then. `delampuk-sys` links its archive, which `sh tools/native`
-//! writes; this crate adds types and no rules. Both need the standard library alone and allocate nothing.
+//! writes; this crate adds types and no rules. Both need the standard library alone and allocate nothing. An archive of
+//! another version than this crate's is not run: the first call panics ([`fits`] asks without that).
 //!
 //! A code is an octet, written (attribute)\[value\] in H.221: the highest three bits and the lower five. (000)\[25\], the
 //! octet 19 in hex, sets audio of six bits in each octet of the line, and 80 says nothing that changes the mode.
@@ -31,19 +32,27 @@
 //! # Ok::<(), delampuk::Refusal>(())
 //! ```
 
+mod code;
 mod ffi;
+mod mode;
 mod preset;
 mod reader;
 mod recording;
 mod refusal;
+mod saved;
 mod sender;
+mod version;
 
-pub use delampuk_sys::{LINE, LSD, RECORDING_MAX, VOICE};
+pub use code::{explain, is_carried, CodeKind, Places};
+pub use delampuk_sys::{
+    OCTETS_LINE as LINE, OCTETS_LISTING as LISTING_MAX, OCTETS_LSD as LSD, OCTETS_RECORDING as RECORDING_MAX,
+    OCTETS_VOICE as VOICE,
+};
+pub use mode::{Counts, Due, Mode};
 pub use preset::Preset;
 pub use reader::{Block, Reader, Standing, Verdict, Word};
 pub use recording::{list, search, Step, Steps, Streams, Walk};
 pub use refusal::Refusal;
+pub use saved::NoSavedForm;
 pub use sender::{Call, Sender, Sent};
-
-/// The most octets that a listing has.
-pub const TEXT_MAX: usize = 16_384;
+pub use version::{fits, version, Version};

@@ -1,7 +1,18 @@
 //! Reading blocks.
 
+use std::fmt;
+
+use delampuk_sys::{
+    OCTETS_SAVED_READER, READ_BLOCK, STANDING_LOST, STANDING_READ, STANDING_WAITING, VERDICT_BAD, VERDICT_GOOD,
+    VERDICT_NONE, WORD_FORBIDDEN, WORD_ITEM, WORD_MENDED, WORD_MESSAGE, WORD_NOT_FOLLOWED, WORD_NOT_READ,
+    WORD_UNREADABLE,
+};
+
+use crate::code::Hex;
 use crate::ffi;
+use crate::mode::{Due, Mode};
 use crate::refusal::{unknown, Refusal};
+use crate::saved::{loaded, saved, NoSavedForm};
 
 /// How a block was taken.
 #[derive(Clone, Copy, Debug, PartialEq, Eq, Hash)]
@@ -26,7 +37,7 @@ pub enum Verdict {
 }
 
 /// The reading of a block's BAS word, with the code where there is one.
-#[derive(Clone, Copy, Debug, PartialEq, Eq, Hash)]
+#[derive(Clone, Copy, PartialEq, Eq, Hash)]
 pub enum Word {
     /// A plain word, after mending up to two bits. A command has been followed and takes hold in the next block.
     Mended(u8),
@@ -58,6 +69,24 @@ impl Word {
     }
 }
 
+impl fmt::Debug for Word {
+    fn fmt(&self, out: &mut fmt::Formatter) -> fmt::Result {
+        let name = match self {
+            Word::Mended(_) => "Mended",
+            Word::Item(_) => "Item",
+            Word::Message(_) => "Message",
+            Word::ForbiddenItem(_) => "ForbiddenItem",
+            Word::NotFollowed(_) => "NotFollowed",
+            Word::Unreadable => "Unreadable",
+            Word::NotRead => "NotRead",
+        };
+        match self.code() {
+            Some(code) => out.debug_tuple(name).field(&Hex(code)).finish(),
+            None => out.write_str(name),
+        }
+    }
+}
+
 /// What a reader says of a block.
 #[derive(Clone, Copy, Debug, PartialEq, Eq, Hash)]
 pub struct Block {
@@ -72,25 +101,25 @@ pub struct Block {
 impl Block {
     pub(crate) fn from_answer(answer: &ffi::BlockAnswer) -> Block {
         let standing = match answer.standing {
-            0 => Standing::Waiting,
-            1 => Standing::Read,
-            2 => Standing::Lost,
+            STANDING_WAITING => Standing::Waiting,
+            STANDING_READ => Standing::Read,
+            STANDING_LOST => Standing::Lost,
             number => unknown("standing", number),
         };
         let verdict = match answer.verdict {
-            0 => Verdict::None,
-            1 => Verdict::Good,
-            2 => Verdict::Bad,
+            VERDICT_NONE => Verdict::None,
+            VERDICT_GOOD => Verdict::Good,
+            VERDICT_BAD => Verdict::Bad,
             number => unknown("verdict", number),
         };
         let word = match answer.reading {
-            0 => Word::Mended(answer.code),
-            1 => Word::Item(answer.code),
-            2 => Word::Message(answer.code),
-            3 => Word::ForbiddenItem(answer.code),
-            4 => Word::NotFollowed(answer.code),
-            5 => Word::Unreadable,
-            6 => Word::NotRead,
+            WORD_MENDED => Word::Mended(answer.code),
+            WORD_ITEM => Word::Item(answer.code),
+            WORD_MESSAGE => Word::Message(answer.code),
+            WORD_FORBIDDEN => Word::ForbiddenItem(answer.code),
+            WORD_NOT_FOLLOWED => Word::NotFollowed(answer.code),
+            WORD_UNREADABLE => Word::Unreadable,
+            WORD_NOT_READ => Word::NotRead,
             number => unknown("word", number),
         };
         Block { standing, verdict, word }
@@ -105,11 +134,15 @@ pub struct Reader {
 
 impl Reader {
     /// The length of a saved reader.
-    pub const OCTETS: usize = 12;
+    pub const OCTETS: usize = OCTETS_SAVED_READER;
 
     /// A reader before its first block: audio and data off, its place unknown.
     pub fn new() -> Reader {
-        Reader { state: ffi::fresh_reader() }
+        Reader::from_state(ffi::start_reader())
+    }
+
+    pub(crate) fn from_state(state: ffi::Reader) -> Reader {
+        Reader { state }
     }
 
     /// Takes one block of 20 ms apart and moves on to the next.
@@ -122,29 +155,46 @@ impl Reader {
     ///
     /// Refusals 1 to 4; the reader, `voice` and `lsd` are then as they were.
     pub fn read(&mut self, line: &[u8], voice: &mut [u8], lsd: &mut [u8]) -> Result<Block, Refusal> {
-        let outcome = ffi::read(self.state, line, voice, lsd);
-        self.state = outcome.state;
-        Refusal::unless_zero(outcome.answer.number)?;
-        match outcome.answer.kind {
-            0 => Ok(Block::from_answer(&outcome.answer.block)),
+        let answer = ffi::read(&mut self.state, line, voice, lsd);
+        Refusal::unless_zero(answer.number)?;
+        match answer.kind {
+            READ_BLOCK => Ok(Block::from_answer(&answer.block)),
             kind => unknown("reading", kind),
         }
     }
 
-    /// The reader as octets, to be saved.
-    pub fn to_octets(&self) -> [u8; Reader::OCTETS] {
-        let ffi::Reader { mode, kept, wrong, block, firsts, misses, slot, before, remainder } = self.state;
-        let (kind, words) = (slot.kind, slot.words);
-        [mode.audio, mode.lsd, kept.audio, kept.lsd, wrong, block, firsts, misses, kind, words, before, remainder]
+    /// What the next block is cut by.
+    pub fn mode(&self) -> Mode {
+        Mode::from_state(ffi::tell_reader(&self.state).mode)
     }
 
-    /// A reader that was saved. Any octets are taken; its calls refuse with 1 where they are out of range.
-    pub fn from_octets(octets: [u8; Reader::OCTETS]) -> Reader {
-        let [audio, lsd, kept_audio, kept_lsd, wrong, block, firsts, misses, kind, words, before, remainder] = octets;
-        let mode = ffi::Mode { audio, lsd };
-        let kept = ffi::Mode { audio: kept_audio, lsd: kept_lsd };
-        let slot = ffi::Slot { kind, words };
-        Reader { state: ffi::Reader { mode, kept, wrong, block, firsts, misses, slot, before, remainder } }
+    /// The next block's number among the eight of a multiframe, 1 to 8; none while it is unknown.
+    pub fn next_block(&self) -> Option<u8> {
+        match ffi::tell_reader(&self.state).block {
+            0 => None,
+            number => Some(number),
+        }
+    }
+
+    /// What the next word is taken for.
+    pub fn due(&self) -> Due {
+        let told = ffi::tell_reader(&self.state);
+        Due::from_numbers(told.due, told.words)
+    }
+
+    /// The reader as octets, to be saved. Later versions load them too.
+    pub fn save(&self) -> [u8; Reader::OCTETS] {
+        saved(|octets| ffi::save_reader(&self.state, octets))
+    }
+
+    /// A reader that this version or an earlier one has saved. Any octets are taken; its calls refuse with 1 where they
+    /// are out of range.
+    ///
+    /// # Errors
+    ///
+    /// Where no saved reader has so many octets.
+    pub fn load(saved: &[u8]) -> Result<Reader, NoSavedForm> {
+        loaded(ffi::load_reader(saved), saved.len()).map(Reader::from_state)
     }
 }
 

@@ -2,9 +2,12 @@
 
 use std::iter::FusedIterator;
 
+use delampuk_sys::{OCTETS_SAVED_WALK, STEP_BLOCK, STEP_END, STEP_PLACE};
+
 use crate::ffi;
 use crate::reader::{Block, Reader};
 use crate::refusal::{unknown, Refusal};
+use crate::saved::{loaded, saved, NoSavedForm};
 use crate::{LSD, VOICE};
 
 /// The first octet from `start` on where a block begins, counted from the recording's own first octet.
@@ -20,7 +23,7 @@ pub fn search(recording: &[u8], start: usize) -> Result<usize, Refusal> {
 }
 
 /// Writes the listing of a recording, lines of ASCII with a newline after each, to the front of `text`, and answers its
-/// length. [`TEXT_MAX`](crate::TEXT_MAX) octets are room enough; `None` where it does not fit, and then `text` holds
+/// length. [`LISTING_MAX`](crate::LISTING_MAX) octets are room enough; `None` where it does not fit, and then `text` holds
 /// what does. A recording that cannot be searched has a listing too: `none` and the refusal's number.
 pub fn list(recording: &[u8], text: &mut [u8]) -> Option<usize> {
     let length = ffi::list(recording, text);
@@ -45,14 +48,12 @@ pub enum Step {
 #[derive(Clone, Debug, PartialEq, Eq)]
 pub struct Walk<'a> {
     recording: &'a [u8],
-    place: usize,
-    lost: u8,
-    reader: Reader,
+    state: ffi::Walk,
 }
 
 impl<'a> Walk<'a> {
     /// The length of a saved walk.
-    pub const OCTETS: usize = Reader::OCTETS + 9;
+    pub const OCTETS: usize = OCTETS_SAVED_WALK;
 
     /// A walk from the first place where a block begins, with a new reader.
     ///
@@ -66,7 +67,8 @@ impl<'a> Walk<'a> {
 
     /// A walk from any place on, with a reader that has perhaps read before.
     pub fn from_place(recording: &'a [u8], place: usize, reader: Reader) -> Walk<'a> {
-        Walk { recording, place, lost: 0, reader }
+        let state = ffi::Walk { reader: reader.state, ..ffi::start_walk(place) };
+        Walk { recording, state }
     }
 
     /// One step: the block at the place where the walk stands; after a lost one the next place where a block begins;
@@ -76,44 +78,40 @@ impl<'a> Walk<'a> {
     ///
     /// Refusals 1, 3, 4 and 9; the walk, `voice` and `lsd` are then as they were.
     pub fn step(&mut self, voice: &mut [u8], lsd: &mut [u8]) -> Result<Step, Refusal> {
-        let outcome = ffi::step(self.recording, self.place, self.lost, self.reader.state, voice, lsd);
-        self.place = outcome.place;
-        self.lost = outcome.lost;
-        self.reader.state = outcome.reader;
-        Refusal::unless_zero(outcome.answer.number)?;
-        match outcome.answer.kind {
-            0 => Ok(Step::Block(Block::from_answer(&outcome.answer.block))),
-            1 => Ok(Step::Place(outcome.answer.value)),
-            2 => Ok(Step::End(outcome.answer.value)),
+        let answer = ffi::step(&mut self.state, self.recording, voice, lsd);
+        Refusal::unless_zero(answer.number)?;
+        match answer.kind {
+            STEP_BLOCK => Ok(Step::Block(Block::from_answer(&answer.block))),
+            STEP_PLACE => Ok(Step::Place(answer.value)),
+            STEP_END => Ok(Step::End(answer.value)),
             kind => unknown("step", kind),
         }
     }
 
     /// The octet of the recording where the walk stands.
     pub fn place(&self) -> usize {
-        self.place
+        self.state.place
     }
 
     /// The reader as the last block left it.
-    pub fn reader(&self) -> &Reader {
-        &self.reader
+    pub fn reader(&self) -> Reader {
+        Reader::from_state(self.state.reader)
     }
 
-    /// The walk as octets, to be saved: the reader's, the mark of a lost block, and the place, lowest octet first.
-    /// The recording is not among them.
-    pub fn to_octets(&self) -> [u8; Walk::OCTETS] {
-        let mut octets = [self.lost; Walk::OCTETS];
-        octets[..Reader::OCTETS].copy_from_slice(&self.reader.to_octets());
-        octets[Reader::OCTETS + 1..].copy_from_slice(&self.place.to_le_bytes());
-        octets
+    /// The walk as octets, to be saved: the reader, whether a block was lost, and the place. Later versions load them
+    /// too. The recording is not among them.
+    pub fn save(&self) -> [u8; Walk::OCTETS] {
+        saved(|octets| ffi::save_walk(&self.state, octets))
     }
 
-    /// A walk over `recording` that was saved. Any octets are taken; its steps refuse with 1 where the reader is out
-    /// of range, and with 9 where the place is.
-    pub fn from_octets(recording: &'a [u8], octets: [u8; Walk::OCTETS]) -> Walk<'a> {
-        let [reader @ .., lost, p0, p1, p2, p3, p4, p5, p6, p7] = octets;
-        let place = usize::from_le_bytes([p0, p1, p2, p3, p4, p5, p6, p7]);
-        Walk { recording, place, lost, reader: Reader::from_octets(reader) }
+    /// A walk over `recording` that this version or an earlier one has saved. Any octets are taken; its steps refuse
+    /// with 1 where the reader is out of range, and with 9 where the place is.
+    ///
+    /// # Errors
+    ///
+    /// Where no saved walk has so many octets.
+    pub fn load(recording: &'a [u8], saved: &[u8]) -> Result<Walk<'a>, NoSavedForm> {
+        loaded(ffi::load_walk(saved), saved.len()).map(|state| Walk { recording, state })
     }
 }
 

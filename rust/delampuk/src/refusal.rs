@@ -3,34 +3,40 @@
 use std::error::Error;
 use std::fmt;
 
+use delampuk_sys::{
+    REFUSAL_ITEM, REFUSAL_LINE, REFUSAL_LSD, REFUSAL_MUTED, REFUSAL_NOT_CARRIED, REFUSAL_NO_PLACE, REFUSAL_OVERLAP,
+    REFUSAL_PRESET, REFUSAL_RECORDING, REFUSAL_STATE, REFUSAL_VOICE,
+};
+
 /// Why a call is refused. It has changed nothing then: neither the state nor any octet that it was lent.
 ///
 /// Where several reasons hold, the one with the smallest number is given.
 #[derive(Clone, Copy, Debug, PartialEq, Eq, PartialOrd, Ord, Hash)]
+#[repr(u8)]
 pub enum Refusal {
     /// 1: the state is out of range, as only one that was loaded can be.
-    BadState = 1,
+    BadState = REFUSAL_STATE,
     /// 2: the line block is not [`LINE`](crate::LINE) octets.
-    LineLength = 2,
+    LineLength = REFUSAL_LINE,
     /// 3: the voice buffer is not [`VOICE`](crate::VOICE) octets.
-    VoiceLength = 3,
+    VoiceLength = REFUSAL_VOICE,
     /// 4: the data buffer is not [`LSD`](crate::LSD) octets.
-    LsdLength = 4,
+    LsdLength = REFUSAL_LSD,
     /// 5: the offered code is not carried as a plain word.
-    NotCarried = 5,
+    NotCarried = REFUSAL_NOT_CARRIED,
     /// 6: an item is due, and the offered code has attribute 111.
-    ForbiddenItem = 6,
+    ForbiddenItem = REFUSAL_ITEM,
     /// 7: an audio command is offered while mute is set.
-    AudioWhileMuted = 7,
+    AudioWhileMuted = REFUSAL_MUTED,
     /// 8: audio and data would hold the same bits.
-    Overlap = 8,
+    Overlap = REFUSAL_OVERLAP,
     /// 9: the recording is longer than [`RECORDING_MAX`](crate::RECORDING_MAX), or a search has fewer than 168 octets
     /// before it, or a walk stands past the end.
-    Recording = 9,
+    Recording = REFUSAL_RECORDING,
     /// 10: alignment stands nowhere from the start of the search on.
-    NoPlace = 10,
+    NoPlace = REFUSAL_NO_PLACE,
     /// 11: the sixteen bits are no preset.
-    NotAPreset = 11,
+    NotAPreset = REFUSAL_PRESET,
 }
 
 const ALL: [Refusal; 11] = [

@@ -1,10 +1,17 @@
 //! Sending blocks.
 
+use std::fmt;
+
+use delampuk_sys::{OCTETS_SAVED_SENDER, SEND_HELD, SEND_SENT};
+
+use crate::code::Hex;
 use crate::ffi;
+use crate::mode::{Due, Mode};
 use crate::refusal::{unknown, Refusal};
+use crate::saved::{loaded, saved, NoSavedForm};
 
 /// What a sending call is given beside the buffers.
-#[derive(Clone, Copy, Debug, PartialEq, Eq, Hash)]
+#[derive(Clone, Copy, PartialEq, Eq, Hash)]
 pub struct Call {
     /// Whether the microphone is off. Nothing of the voice buffer goes into a block that is sent with mute set.
     pub mute: bool,
@@ -30,6 +37,14 @@ impl Call {
     }
 }
 
+impl fmt::Debug for Call {
+    fn fmt(&self, out: &mut fmt::Formatter) -> fmt::Result {
+        let Call { mute, code, a, e, t } = self;
+        let mut call = out.debug_struct("Call");
+        call.field("mute", mute).field("code", &Hex(*code)).field("a", a).field("e", e).field("t", t).finish()
+    }
+}
+
 /// What became of the offered code.
 #[derive(Clone, Copy, Debug, PartialEq, Eq, Hash)]
 pub enum Sent {
@@ -48,11 +63,11 @@ pub struct Sender {
 
 impl Sender {
     /// The length of a saved sender.
-    pub const OCTETS: usize = 6;
+    pub const OCTETS: usize = OCTETS_SAVED_SENDER;
 
     /// A sender before its first block: audio and data off, block 1 of 8 next, no item due.
     pub fn new() -> Sender {
-        Sender::from_state(ffi::fresh_sender())
+        Sender::from_state(ffi::start_sender())
     }
 
     pub(crate) fn from_state(state: ffi::Sender) -> Sender {
@@ -62,9 +77,9 @@ impl Sender {
     /// Frames one block of 20 ms into `line` and moves on to the next.
     ///
     /// `voice` has [`VOICE`](crate::VOICE) octets, `lsd` has [`LSD`](crate::LSD) and `line` has [`LINE`](crate::LINE);
-    /// other lengths are refused. Bits are packed most significant first. Of the voice the first 20 octets count for
-    /// each bit that the audio in force holds, of the data as many bits as its command gives to a block. All of `line`
-    /// is written. A command takes hold in the next block.
+    /// other lengths are refused. Bits are packed most significant first. How much of the
+    /// streams counts is told by [`Mode::counts`] of [`Sender::mode`]. All of `line` is written. A command takes hold in
+    /// the next block.
     ///
     /// # Errors
     ///
@@ -73,10 +88,25 @@ impl Sender {
         let answer = ffi::send(&mut self.state, call, voice, lsd, line);
         Refusal::unless_zero(answer.number)?;
         match answer.kind {
-            0 => Ok(Sent::Sent),
-            1 => Ok(Sent::Held),
+            SEND_SENT => Ok(Sent::Sent),
+            SEND_HELD => Ok(Sent::Held),
             kind => unknown("sending", kind),
         }
+    }
+
+    /// What the next block is cut by.
+    pub fn mode(&self) -> Mode {
+        Mode::from_state(ffi::tell_sender(&self.state).mode)
+    }
+
+    /// The chosen audio, a value of (000), which is off in [`Sender::mode`] while it is muted.
+    pub fn chosen(&self) -> u8 {
+        ffi::tell_sender(&self.state).chosen
+    }
+
+    /// What the next word is: a plain word or an item, for a sender opens no message.
+    pub fn due(&self) -> Due {
+        Due::from_numbers(ffi::tell_sender(&self.state).due, 0)
     }
 
     /// The chosen audio and the data in force as a preset's sixteen bits.
@@ -85,21 +115,24 @@ impl Sender {
     ///
     /// Refusal 1.
     pub fn preset(&self) -> Result<u16, Refusal> {
-        let answer = ffi::write_preset(self.state);
+        let answer = ffi::write_preset(&self.state);
         Refusal::unless_zero(answer.number)?;
         Ok(answer.bits)
     }
 
-    /// The sender as octets, to be saved.
-    pub fn to_octets(&self) -> [u8; Sender::OCTETS] {
-        let ffi::Sender { chosen, mode, block, due, remainder } = self.state;
-        [chosen, mode.audio, mode.lsd, block, due, remainder]
+    /// The sender as octets, to be saved. Later versions load them too.
+    pub fn save(&self) -> [u8; Sender::OCTETS] {
+        saved(|octets| ffi::save_sender(&self.state, octets))
     }
 
-    /// A sender that was saved. Any octets are taken; its calls refuse with 1 where they are out of range.
-    pub fn from_octets(octets: [u8; Sender::OCTETS]) -> Sender {
-        let [chosen, audio, lsd, block, due, remainder] = octets;
-        Sender::from_state(ffi::Sender { chosen, mode: ffi::Mode { audio, lsd }, block, due, remainder })
+    /// A sender that this version or an earlier one has saved. Any octets are taken; its calls refuse with 1 where they
+    /// are out of range.
+    ///
+    /// # Errors
+    ///
+    /// Where no saved sender has so many octets.
+    pub fn load(saved: &[u8]) -> Result<Sender, NoSavedForm> {
+        loaded(ffi::load_sender(saved), saved.len()).map(Sender::from_state)
     }
 }
 

@@ -4,7 +4,7 @@
 use std::fmt::{self, Debug};
 use std::io;
 
-use delampuk::TEXT_MAX;
+use delampuk::LISTING_MAX;
 use differential::calls::{Call, List, Octets, WalkStep};
 use differential::cases::{self, Trial};
 use differential::linked::Linked;
@@ -131,7 +131,7 @@ call:    List { recording: 168:0000000101000101+00*73+01+00*81+0101000101, text:
 fn a_listing_becomes_a_word() {
     run(|trial| {
         let recording = Octets(draw::recording(&mut trial.random));
-        let text = Octets(trial.random.octets(TEXT_MAX));
+        let text = Octets(trial.random.octets(LISTING_MAX));
         trial.call(&erring(List { recording, text }, |_, left| {
             if left.text.0.starts_with(b"found ") {
                 left.text.0[0] = b'F';

@@ -32,6 +32,34 @@ impl Mode {
     pub fn in_range(self) -> bool {
         held_audio(self.audio) && listed_data(self.data) && !overlap(self.audio, self.data)
     }
+
+    /// How many octets of a voice buffer count: 20w.
+    pub fn voice_octets(self) -> usize {
+        20 * width(self.audio).unwrap_or(0)
+    }
+
+    /// How many bits of a data buffer count: twice the bits per frame.
+    pub fn data_bits(self) -> usize {
+        let of_octet = |octet| (1..=8).filter(|&bit| data_holds(self.data, octet, bit)).count();
+        2 * (1..=80).map(of_octet).sum::<usize>()
+    }
+}
+
+/// What a code is as a plain word.
+#[derive(Clone, Copy, Debug, PartialEq, Eq)]
+pub enum Kind {
+    /// (000)[0].
+    Neutral,
+    /// A listed value of (000) but [0].
+    Audio,
+    /// A listed value of (011).
+    Data,
+    /// It makes the next word an item.
+    Escape,
+    /// It opens a message.
+    Message,
+    /// None of these.
+    Other,
 }
 
 /// b0 b1 b2 of a code.
@@ -99,6 +127,37 @@ pub fn data_holds(data: u8, octet: usize, bit: usize) -> bool {
         14 => bits_up_to_7(1) || service_channel(17, 80),
         _ => false,
     }
+}
+
+/// What a code is.
+pub fn kind(code: u8) -> Kind {
+    match (attribute(code), value(code)) {
+        (AUDIO, NEUTRAL) => Kind::Neutral,
+        (AUDIO, value) if held_audio(value) => Kind::Audio,
+        (DATA, value) if listed_data(value) => Kind::Data,
+        (ESCAPE, 0..=23) => Kind::Escape,
+        (ESCAPE, 25..=31) => Kind::Message,
+        _ => Kind::Other,
+    }
+}
+
+/// Whether a code's stream holds bit 1 to 8 of octet 1 to 80 of each frame.
+fn holds(code: u8, octet: usize, bit: usize) -> bool {
+    match kind(code) {
+        Kind::Audio => voice_holds(value(code), bit),
+        Kind::Data => data_holds(value(code), octet, bit),
+        _ => false,
+    }
+}
+
+/// Those of bits 1 to 7 that a code's stream holds in every octet.
+pub fn octet_bits(code: u8) -> Vec<usize> {
+    (1..=7).filter(|&bit| (1..=80).all(|octet| holds(code, octet, bit))).collect()
+}
+
+/// The octets whose bit 8 a code's stream holds.
+pub fn service_octets(code: u8) -> Vec<usize> {
+    (1..=80).filter(|&octet| holds(code, octet, 8)).collect()
 }
 
 /// Whether an audio and a data value hold some place in common.

@@ -18,6 +18,7 @@ pub mod random;
 pub mod reader;
 pub mod recording;
 pub mod refusal;
+pub mod saved;
 pub mod sender;
 pub mod service;
 pub mod show;

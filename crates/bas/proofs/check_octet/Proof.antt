@@ -8,7 +8,7 @@ use lib.Bits.{bitXor}
 use lib.Dec.{eqb}
 use Rattle.bits.specs.Bits.{odd, lowBits, number, xors}
 use Rattle.bits.specs.Remainder.{scaled, fed, continued, remainder}
-use Rattle.bits.proofs.Every.{everyBelow, below}
+use Rattle.bits.proofs.BoolLaws.{everyBelow, below}
 use Rattle.bas.specs.Words.{checkOf}
 use Rattle.bas.proofs.check_octet.Statement.{statement}
 use Rattle.bas.proofs.check_octet.Tie as tie

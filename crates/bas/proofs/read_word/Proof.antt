@@ -6,14 +6,14 @@ use borrow.Author.Needs.{needs}
 use Rattle.bits.specs.Bits.{lowBits, number}
 use Rattle.bas.specs.Flips.{flipsAt, syndrome}
 use Rattle.bas.specs.declared.Word.the-variants.{Code}
-use Rattle.bas.proofs.ReadingLaws.{place, mended, unharmed, unmended}
+use Rattle.bas.proofs.ReadingLaws.{index-is-syndrome, mended, unharmed, unmended}
 use Rattle.bas.proofs.read_word.Statement.{statement}
 use Rattle.bas.proofs.read_word.Tie as tie
 use Rattle.bas.specs.Words.{checkOf}
 
 -- what the code finds from what its two callees ensure: the remainder, and the flips at it
 remains : (w check : ℕ) → check ≡ checkOf (w / 256) → bitXor check (w % 256) ≡ number (syndrome (lowBits 16 w))
-remains w check e = ap (λ (n : ℕ). bitXor n (w % 256)) e ∙ place w
+remains w check e = ap (λ (n : ℕ). bitXor n (w % 256)) e ∙ index-is-syndrome w
 
 found : (w check flip : ℕ) → check ≡ checkOf (w / 256) → flip ≡ flipsAt (bitXor check (w % 256)) → flip ≡ flipsAt (number (syndrome (lowBits 16 w)))
 found w check flip e g = g ∙ ap flipsAt (remains w check e)

@@ -12,7 +12,7 @@ use Rattle.bits.specs.Bits.{odd, lowBits, number, xors}
 use Rattle.bits.specs.Remainder.{scaled, fed, continued, remainder}
 use Rattle.crc.specs.Crc.{crc4Generator}
 use Rattle.bits.proofs.BitLaws.{lowBits-mod}
-use Rattle.bits.proofs.Every.{everyBelow, below}
+use Rattle.bits.proofs.BoolLaws.{everyBelow, below}
 use Rattle.crc.proofs.crc4_half.Statement.{statement}
 use Rattle.crc.proofs.crc4_half.Tie as tie
 

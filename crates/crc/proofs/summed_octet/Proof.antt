@@ -1,6 +1,7 @@
 -- `crc::summed_octet` meets its contract: each return follows from the tests that led there.
 use native.Mathlib.Omega.{arith}
 use borrow.Author.Tests.{le-leb, lt-leb, lt-ltb, le-ltb}
+use Rattle.bits.proofs.BitLaws.{without-sc}
 use Rattle.crc.specs.Crc.{summed}
 use borrow.Author.Needs.{needs}
 use Rattle.crc.proofs.summed_octet.Statement.{statement}
@@ -8,7 +9,7 @@ use Rattle.crc.proofs.summed_octet.Tie as tie
 
 returns : tie.Need-returns
 unfolding summed
-returns c = simp (le-leb _ _ (c .before .if1 .taken), lt-ltb (c .before .before .args .at) 88 (omega arith))
+returns c = simp (le-leb _ _ (c .before .if1 .taken), lt-ltb (c .before .before .args .at) 88 (omega arith), without-sc)
 
 returns-2 : tie.Need-returns-2
 unfolding summed

@@ -1,6 +1,6 @@
 -- `eights::cut_eight` meets its contract: the loop's invariant: the number has the first j octets.
 use mathlib.Core.Path.{_≡_, refl, ap, _∙_}
-use mathlib.Core.Bool.{Bool, true, false, cond, _&&_}
+use mathlib.Core.Bool.{Bool, true, cond, _&&_}
 use mathlib.Core.List.{List}
 use Prim.Native.Nat.{ℕ, _+_, _-_, _*_, _^_, _≤_, _<_}
 use native.Mathlib.Numerals.{add-one}
@@ -9,7 +9,8 @@ use denote.Ref.{now}
 use lib.Dec.{leb, lit<}
 use lib.ListN.{getD, drop}
 use lib.Pow.{pow-add, pow-mono}
-use Rattle.bits.specs.Bits.{bitsOf, digit}
+use Rattle.bits.specs.Bits.{bitsOf}
+use Rattle.bits.proofs.BoolLaws.{digit-low}
 use Rattle.eights.specs.Eight.{ownAt}
 use Rattle.eights.proofs.WordLaws.{firsts, firsts-all}
 use borrow.Author.Needs.{needs}
@@ -26,13 +27,9 @@ Inv-loop buffer d first last o eight₀ j₀ eight j = (j ≤ 8) × (eight < 2 ^
 abbrev μ-loop : tie.MeasureT-loop
 μ-loop buffer d first last o eight₀ j₀ eight j = 8 - j
 
-digit-le : (b : Bool) → digit b ≤ 1
-digit-le true = omega arith
-digit-le false = omega arith
-
 own-le : (first last : ℕ) (bits : List Bool) (o : ℕ) → ownAt first last bits o ≤ 1
 unfolding ownAt
-own-le first last bits o = digit-le (cond (leb first (o + 1) && leb (o + 1) last) (getD bits (o + 1 - first) true) true)
+own-le first last bits o = digit-low (cond (leb first (o + 1) && leb (o + 1) last) (getD bits (o + 1 - first) true) true)
 
 bit-le : (c : tie.After-own-bit Inv-loop μ-loop) → c .own-bit .result ≤ 1
 bit-le c =

@@ -1,4 +1,4 @@
--- `frames::all_back` is safe and ends: its counter goes up to a bound.
+-- `layouts::all_back` is safe and ends: its counter goes up to a bound.
 use Prim.Native.Nat.{_-_, _≤_}
 use native.Mathlib.Omega.{arith}
 use Rattle.layouts.proofs.all_back.Statement.{statement}

@@ -1,4 +1,4 @@
--- `frames::each_mode` is safe and ends: its counter goes up to a bound.
+-- `layouts::each_mode` is safe and ends: its counter goes up to a bound.
 use Prim.Native.Nat.{_-_, _≤_}
 use native.Mathlib.Omega.{arith}
 use Rattle.layouts.proofs.each_mode.Statement.{statement}

@@ -1,4 +1,4 @@
--- `frames::pattern` is safe and ends: its counter goes up to the buffer's length, which stays.
+-- `layouts::pattern` is safe and ends: its counter goes up to the buffer's length, which stays.
 use Prim.Native.Nat.{_-_}
 use mathlib.Core.Path.{_≡_, refl}
 use native.Mathlib.Omega.{arith}

@@ -1,4 +1,4 @@
--- `frames::position` is safe and ends: its counter goes up to a bound.
+-- `layouts::position` is safe and ends: its counter goes up to a bound.
 use Prim.Native.Nat.{_-_, _≤_}
 use native.Mathlib.Omega.{arith}
 use Rattle.layouts.proofs.position.Statement.{statement}

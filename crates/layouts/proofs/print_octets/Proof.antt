@@ -1,4 +1,4 @@
--- `frames::print_octets` is safe and ends: its counter goes up to a bound.
+-- `layouts::print_octets` is safe and ends: its counter goes up to a bound.
 use Prim.Native.Nat.{_-_, _≤_}
 use native.Mathlib.Omega.{arith}
 use Rattle.layouts.proofs.print_octets.Statement.{statement}

@@ -1,4 +1,4 @@
--- `reading::all_refused` is safe and ends: its counter goes up to a bound.
+-- `replay::all_refused` is safe and ends: its counter goes up to a bound.
 use Prim.Native.Nat.{_-_, _≤_}
 use native.Mathlib.Omega.{arith}
 use Rattle.replay.proofs.all_refused.Statement.{statement}

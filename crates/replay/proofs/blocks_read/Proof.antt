@@ -1,4 +1,4 @@
--- `reading::blocks_read` is safe and ends: its counter goes up to the number of blocks.
+-- `replay::blocks_read` is safe and ends: its counter goes up to the number of blocks.
 use Prim.Native.Nat.{_-_, _≤_}
 use native.Mathlib.Omega.{arith}
 use Rattle.replay.proofs.blocks_read.Statement.{statement}

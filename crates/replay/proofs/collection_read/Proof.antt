@@ -1,4 +1,4 @@
--- `reading::collection_read` is safe and ends: its counter goes up to a bound.
+-- `replay::collection_read` is safe and ends: its counter goes up to a bound.
 use Prim.Native.Nat.{_-_, _≤_}
 use native.Mathlib.Omega.{arith}
 use borrow.Author.Needs.{needs}

@@ -1,4 +1,4 @@
--- `reading::lent` is safe: no part ends past its buffer.
+-- `replay::lent` is safe: no part ends past its buffer.
 use native.Mathlib.Omega.{arith}
 use lib.ListN.{length-take}
 use borrow.Author.Needs.{needs}

@@ -1,4 +1,4 @@
--- `reading::print_stream` is safe: what it prints ends within the stream.
+-- `replay::print_stream` is safe: what it prints ends within the stream.
 use native.Mathlib.Omega.{arith}
 use lib.ListN.{length-take}
 use borrow.Author.Needs.{needs}

@@ -1,4 +1,4 @@
--- `reading::still_filled` is safe and ends: its counter goes up to a bound.
+-- `replay::still_filled` is safe and ends: its counter goes up to a bound.
 use Prim.Native.Nat.{_-_, _≤_}
 use native.Mathlib.Omega.{arith}
 use Rattle.replay.proofs.still_filled.Statement.{statement}

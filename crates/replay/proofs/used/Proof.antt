@@ -1,4 +1,4 @@
--- `reading::used` is safe and ends: its count falls from the length.
+-- `replay::used` is safe and ends: its count falls from the length.
 use Prim.Native.Nat.{_≤_}
 use native.Mathlib.Omega.{arith}
 use lib.ListN.{length}

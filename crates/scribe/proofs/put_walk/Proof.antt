@@ -1,4 +1,4 @@
--- `scribe::put_walk` meets its contract: so many turns are made, and what they wrote stands in the text.
+-- `scribe::put_walk` meets its contract: after `turn` turns of the loop, what they wrote stands in the text (`Going`).
 use borrow.Author.Needs.{needs}
 use native.Mathlib.Omega.{arith}
 use mathlib.Core.Path.{sym, _∙_}

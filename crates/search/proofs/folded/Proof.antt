@@ -4,7 +4,7 @@ use Prim.Native.Nat.{ℕ, _+_, _-_, _*_, _≤_}
 use native.Mathlib.Omega.{arith}
 use lib.ListN.{length, getD, length-set}
 use borrow.Author.Needs.{needs}
-use Rattle.bits.specs.Bits.{odd}
+use Rattle.bits.specs.Bits.{scBit}
 use Rattle.search.specs.Groups.{EachBit, Folded}
 use Rattle.search.proofs.GroupLaws.{one-part-further, one-more-entry}
 use Rattle.search.proofs.folded.Statement.{statement}
@@ -19,32 +19,11 @@ abbrev μ-loop : tie.MeasureT-loop
 loop-holds : tie.Need-loop-holds Inv-loop μ-loop
 loop-holds c = (omega arith, search needs, c .laid-over .ensures)
 
-array-read-one-part-on : tie.Need-array-read-one-part-on Inv-loop μ-loop
-array-read-one-part-on c = omega arith
-
-add-one-part-on : tie.Need-add-one-part-on Inv-loop μ-loop
-add-one-part-on c = omega arith
-
-shared-slice-read-one-part-on : tie.Need-shared-slice-read-one-part-on Inv-loop μ-loop
-shared-slice-read-one-part-on c = omega arith
-
-add-bits : tie.Need-add-bits Inv-loop μ-loop
-add-bits c = omega arith
-
-array-write-bits : tie.Need-array-write-bits Inv-loop μ-loop
-array-write-bits c = omega arith
-
-add-i : tie.Need-add-i Inv-loop μ-loop
-add-i c = omega arith
-
-loop-less : tie.Need-loop-less Inv-loop μ-loop
-loop-less c = omega arith
-
 loop-again : tie.Need-loop-again Inv-loop μ-loop
 loop-again c =
     let l = c .before .before .before .loop in
     let part = c .before .before .before .before .before .before .args .part .now in
-    let P : ℕ → ℕ → Type 0 = λ j x. EachBit x (λ k. odd (getD part (256 * k + j) 0)) in
+    let P : ℕ → ℕ → Type 0 = λ j x. EachBit x (λ k. scBit (getD part (256 * k + j) 0)) in
     let o = c .one-part-on in
     let here : P (l .i + 256) (o .result) =
     one-part-further (getD (l .bits) (l .i) 0) (o .result) (getD part (l .i + 2048) 0) (l .i) part refl
@@ -65,13 +44,13 @@ folded-spec =
     μ-loop
     (λ c κs. search needs)
     loop-holds
-    array-read-one-part-on
-    add-one-part-on
-    shared-slice-read-one-part-on
+    (λ c. omega arith)
+    (λ c. omega arith)
+    (λ c. omega arith)
     (λ c κs. search needs)
-    add-bits
-    array-write-bits
-    add-i
-    loop-less
+    (λ c. omega arith)
+    (λ c. omega arith)
+    (λ c. omega arith)
+    (λ c. omega arith)
     loop-again
     returns)

@@ -5,13 +5,13 @@ use Prim.Native.Nat.{ℕ, _+_, _-_, _*_, _/_, _^_, _≤_, _<_}
 use native.Mathlib.Omega.{arith}
 use lib.ListN.{getD}
 use borrow.Author.Needs.{needs}
-use Rattle.bits.specs.Bits.{odd}
+use Rattle.bits.specs.Bits.{odd, scBit}
 use Rattle.search.proofs.PlaneLaws.{one-below}
 use Rattle.search.proofs.folded_at.Statement.{statement}
 use Rattle.search.proofs.folded_at.Tie as tie
 
 abbrev Inv-loop : tie.InvT-loop
-Inv-loop part at bits₀ k₀ bits k = (k ≤ 8) × ((m : ℕ) → m < k → odd (bits / 2 ^ m) ≡ odd (getD part (256 * (8 - k + m) + at) 0))
+Inv-loop part at bits₀ k₀ bits k = (k ≤ 8) × ((m : ℕ) → m < k → odd (bits / 2 ^ m) ≡ scBit (getD part (256 * (8 - k + m) + at) 0))
 
 abbrev μ-loop : tie.MeasureT-loop
 μ-loop part at bits₀ k₀ bits k = 8 - k
@@ -19,29 +19,11 @@ abbrev μ-loop : tie.MeasureT-loop
 loop-holds : tie.Need-loop-holds Inv-loop μ-loop
 loop-holds c = (omega arith, λ m h. absurd (omega arith))
 
-sub-followed : tie.Need-sub-followed Inv-loop μ-loop
-sub-followed c = omega arith
-
-mul-followed : tie.Need-mul-followed Inv-loop μ-loop
-mul-followed c = omega arith
-
-add-followed : tie.Need-add-followed Inv-loop μ-loop
-add-followed c = omega arith
-
-shared-slice-read-followed : tie.Need-shared-slice-read-followed Inv-loop μ-loop
-shared-slice-read-followed c = omega arith
-
-add-k : tie.Need-add-k Inv-loop μ-loop
-add-k c = omega arith
-
-loop-less : tie.Need-loop-less Inv-loop μ-loop
-loop-less c = omega arith
-
 loop-again : tie.Need-loop-again Inv-loop μ-loop
 loop-again c =
     let l = c .before .before .before .loop in
     let a = c .before .before .before .before .before .args in
-    let sc : ℕ → Bool = λ j. odd (getD (a .part .now) (256 * j + a .at) 0) in
+    let sc : ℕ → Bool = λ j. scBit (getD (a .part .now) (256 * j + a .at) 0) in
     let f = c .followed .ensures in (
       omega arith,
       one-below (l .k) (l .bits) (c .followed .result) (λ m. sc (8 - (l .k + 1) + m)) (omega arith)
@@ -52,7 +34,7 @@ returns : tie.Need-returns Inv-loop μ-loop
 returns c = λ k h.
     let l = c .before .loop in
     let a = c .before .before .before .args in
-    l .inv .1 k (omega arith) ∙ ap (λ (j : ℕ). odd (getD (a .part .now) (256 * j + a .at) 0)) (omega arith)
+    l .inv .1 k (omega arith) ∙ ap (λ (j : ℕ). scBit (getD (a .part .now) (256 * j + a .at) 0)) (omega arith)
 
 pub folded-at-spec : {M : Type 1} → statement M
 folded-at-spec =
@@ -61,12 +43,12 @@ folded-at-spec =
     Inv-loop
     μ-loop
     loop-holds
-    sub-followed
-    mul-followed
-    add-followed
-    shared-slice-read-followed
+    (λ c. omega arith)
+    (λ c. omega arith)
+    (λ c. omega arith)
+    (λ c. omega arith)
     (λ c κs. search needs)
-    add-k
-    loop-less
+    (λ c. omega arith)
+    (λ c. omega arith)
     loop-again
     returns)

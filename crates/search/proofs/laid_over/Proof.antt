@@ -3,7 +3,7 @@ use mathlib.Core.Path.{_≡_, refl}
 use Prim.Native.Nat.{ℕ, _+_, _-_, _*_, _≤_, _<_}
 use native.Mathlib.Omega.{arith}
 use lib.ListN.{length, getD, length-set}
-use Rattle.bits.specs.Bits.{odd}
+use Rattle.bits.specs.Bits.{scBit}
 use Rattle.search.specs.Groups.{EachBit}
 use Rattle.search.proofs.GroupLaws.{one-more-entry}
 use Rattle.search.proofs.laid_over.Statement.{statement}
@@ -11,7 +11,7 @@ use Rattle.search.proofs.laid_over.Tie as tie
 
 abbrev Inv-loop : tie.InvT-loop
 Inv-loop part bits₀ i₀ bits i =
-    (i ≤ 256) × (length bits ≡ 424) × ((j : ℕ) → j < i → EachBit (getD bits j 0) (λ k. odd (getD part (256 * k + j) 0)))
+    (i ≤ 256) × (length bits ≡ 424) × ((j : ℕ) → j < i → EachBit (getD bits j 0) (λ k. scBit (getD part (256 * k + j) 0)))
 
 abbrev μ-loop : tie.MeasureT-loop
 μ-loop part bits₀ i₀ bits i = 256 - i
@@ -19,23 +19,11 @@ abbrev μ-loop : tie.MeasureT-loop
 loop-holds : tie.Need-loop-holds Inv-loop μ-loop
 loop-holds c = (omega arith, refl, λ j h. absurd (omega arith))
 
-folded-at-requires : tie.Need-folded-at-requires Inv-loop μ-loop
-folded-at-requires c κs = omega arith
-
-array-write-bits : tie.Need-array-write-bits Inv-loop μ-loop
-array-write-bits c = omega arith
-
-add-i : tie.Need-add-i Inv-loop μ-loop
-add-i c = omega arith
-
-loop-less : tie.Need-loop-less Inv-loop μ-loop
-loop-less c = omega arith
-
 loop-again : tie.Need-loop-again Inv-loop μ-loop
 loop-again c =
     let part = c .before .before .before .before .args .part .now in
     let l = c .before .before .loop in
-    let P : ℕ → ℕ → Type 0 = λ j x. EachBit x (λ k. odd (getD part (256 * k + j) 0)) in (
+    let P : ℕ → ℕ → Type 0 = λ j x. EachBit x (λ k. scBit (getD part (256 * k + j) 0)) in (
       omega arith,
       simp length-set (l .inv .1),
       one-more-entry P (l .bits) (l .i) (c .folded-at .result) (omega arith) (l .inv .2) (c .folded-at .ensures),
@@ -53,9 +41,9 @@ laid-over-spec =
     Inv-loop
     μ-loop
     loop-holds
-    folded-at-requires
-    array-write-bits
-    add-i
-    loop-less
+    (λ c κs. omega arith)
+    (λ c. omega arith)
+    (λ c. omega arith)
+    (λ c. omega arith)
     loop-again
     returns)

@@ -6,7 +6,7 @@ use native.Mathlib.Omega.{arith}
 use lib.Bits.{bitXor}
 use borrow.Author.Needs.{needs}
 use Rattle.bits.specs.Bits.{odd}
-use Rattle.bits.proofs.BitLaws.{bit-or}
+use Rattle.bits.proofs.BitLaws.{bit-or, sc-is}
 use Rattle.search.specs.Groups.{plane}
 use Rattle.search.proofs.PlaneLaws.{bit-turned, length-plane, plane-at}
 use Rattle.search.proofs.WrongLaws.{not-aligned}
@@ -21,7 +21,7 @@ returns c = λ k h.
     let turned : (x : ℕ) → odd (bitXor x 255 / 2 ^ k) ≡ xor (odd (x / 2 ^ k)) true = λ x. bit-turned x k h in
     simp (bit-or, turned)
     (rw (s .wrong-word .ensures k h, c .wrong-word2 .ensures k h)
-    (rw (plane-at k part (a .at + 81)) at (not-aligned (a .at) (plane k part) (omega (arith, length-plane k part)))))
+    (rw (plane-at k part (a .at + 81), sc-is) at (not-aligned (a .at) (plane k part) (omega (arith, length-plane k part)))))
 
 pub wrong-at-spec : {M : Type 1} → statement M
 wrong-at-spec =

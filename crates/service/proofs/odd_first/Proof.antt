@@ -1,16 +1,9 @@
 -- `service::odd_first` meets its contract: one SC bit.
-use mathlib.Core.Path.{_≡_, refl}
-use mathlib.Core.Bool.{Bool, true, false}
-use lib.Dec.{eqb}
-use Rattle.bits.specs.Bits.{digit}
+use Rattle.bits.proofs.BoolLaws.{bit-back}
 use Rattle.service.specs.Channel.{oddFirst}
 use borrow.Author.Needs.{needs}
 use Rattle.service.proofs.odd_first.Statement.{statement}
 use Rattle.service.proofs.odd_first.Tie as tie
-
-bit-back : (b : Bool) → eqb (digit b) 1 ≡ b
-bit-back true = refl
-bit-back false = refl
 
 returns : tie.Need-returns
 unfolding oddFirst

@@ -6,7 +6,7 @@ use Rattle.slots.proofs.reading_in.Tie as tie
 
 returns : tie.Need-returns
 unfolding readingIn
-returns c = rw (c .code-reading .ensures, c .before .stand .ensures, c .before .before .before .word .given .1)
+returns c = rw (c .code-reading .ensures, c .before .due-now .ensures, c .before .before .before .word .given .1)
 
 returns-2 : tie.Need-returns-2
 unfolding readingIn

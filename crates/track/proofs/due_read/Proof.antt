@@ -5,7 +5,7 @@ use Rattle.track.proofs.due_read.Statement.{statement}
 use Rattle.track.proofs.due_read.Tie as tie
 
 returns : tie.Need-returns
-returns c = rw (c .stand .ensures, c .before .due-of .ensures, eq-eqb _ _ (c .before .before .if1 .taken))
+returns c = rw (c .due-now .ensures, c .before .due-of .ensures, eq-eqb _ _ (c .before .before .if1 .taken))
 
 returns-2 : tie.Need-returns-2
 returns-2 c = rw (c .due-after .ensures, c .before .due-of2 .ensures, ne-eqb _ _ (c .before .before .if1 .left))

@@ -1,6 +1,6 @@
 -- `track::modes_in_range` meets its contract: where the two modes are one, it is judged once.
-use mathlib.Core.Path.{_≡_, refl, ap, sym, _∙_}
-use mathlib.Core.Bool.{Bool, true, false, _&&_}
+use mathlib.Core.Path.{_≡_, ap, sym, _∙_}
+use mathlib.Core.Bool.{true, _&&_, and-self}
 use Rattle.modes.specs.Modes.{sameMode, inRange}
 use Rattle.modes.specs.declared.Mode.{Mode}
 use Rattle.modes.proofs.ModeLaws.{same-mode}
@@ -8,12 +8,8 @@ use borrow.Author.Needs.{needs}
 use Rattle.track.proofs.modes_in_range.Statement.{statement}
 use Rattle.track.proofs.modes_in_range.Tie as tie
 
-twice : (b : Bool) → b ≡ (b && b)
-twice true = refl
-twice false = refl
-
 one-mode : (m k : Mode) → sameMode k m ≡ true → inRange m ≡ (inRange m && inRange k)
-one-mode m k t = twice (inRange m) ∙ ap (λ (n : Mode). inRange m && inRange n) (sym (same-mode k m t))
+one-mode m k t = sym (and-self (inRange m)) ∙ ap (λ (n : Mode). inRange m && inRange n) (sym (same-mode k m t))
 
 returns : tie.Need-returns
 returns c =

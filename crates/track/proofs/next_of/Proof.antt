@@ -6,7 +6,7 @@ use Rattle.track.proofs.next_of.Tie as tie
 
 returns : tie.Need-returns
 unfolding nextOf
-returns c = rw (c .slot-of .ensures, c .before .before .multiframe-after .ensures, c .before .before .before .due-read .ensures, c .before .before .before .before .six-after .ensures, c .before .before .before .before .before .kept-after .ensures, c .before .before .before .before .before .before .obey .ensures, c .before .before .before .before .before .before .before .reading-of .ensures)
+returns c = rw (c .slot-of .ensures, c .before .before .multiframe-after .ensures, c .before .before .before .due-read .ensures, c .before .before .before .before .six-after .ensures, c .before .before .before .before .before .kept-after .ensures, c .before .before .before .before .before .before .obey .ensures, c .before .before .before .before .before .before .before .word-read .ensures)
 
 pub next-of-spec : {M : Type 1} → statement M
 next-of-spec =

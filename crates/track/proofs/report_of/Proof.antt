@@ -6,7 +6,7 @@ use Rattle.track.proofs.report_of.Tie as tie
 
 returns : tie.Need-returns
 unfolding reportOf
-returns c = rw (c .reading-of .ensures, c .before .verdict-of .ensures, c .before .before .standing-of .ensures)
+returns c = rw (c .word-read .ensures, c .before .verdict-of .ensures, c .before .before .standing-of .ensures)
 
 pub report-of-spec : {M : Type 1} → statement M
 report-of-spec =

@@ -1,6 +1,9 @@
 //! The implementations that are compared, each behind the same calls.
 
-#[cfg(before)]
+#[cfg(all(before, not(before_by_value)))]
+mod before;
+#[cfg(before_by_value)]
+#[path = "before_by_value.rs"]
 mod before;
 mod in_c;
 #[cfg(feature = "contestants")]
@@ -10,7 +13,7 @@ mod ours;
 #[cfg(feature = "contestants")]
 mod plain;
 
-use crate::forms::{Offer, ReadOutcome, Reader, SearchAnswer, SendAnswer, Sender};
+use crate::forms::{Offer, ReadAnswer, Reader, SearchAnswer, SendAnswer, Sender};
 
 /// An implementation of document 01.
 pub trait Contestant {
@@ -19,7 +22,7 @@ pub trait Contestant {
     /// Sends one block.
     fn send(&self, state: &mut Sender, offer: &Offer, line: &mut [u8]) -> SendAnswer;
     /// Reads one block.
-    fn read(&self, state: Reader, line: &[u8], voice: &mut [u8], lsd: &mut [u8]) -> ReadOutcome;
+    fn read(&self, state: &mut Reader, line: &[u8], voice: &mut [u8], lsd: &mut [u8]) -> ReadAnswer;
     /// Searches a recording for alignment.
     fn search(&self, recording: &[u8], start: usize) -> SearchAnswer;
     /// Writes the listing of a recording and answers its length.

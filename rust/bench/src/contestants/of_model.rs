@@ -4,12 +4,13 @@ use model::codes;
 use model::listing;
 use model::reader::{self, ReaderState, Standing, Verdict};
 use model::recording;
+use model::refusal::Refusal;
 use model::sender::{self, Answer, Call, SenderState};
 use model::service::Flags;
 use model::slots::{Due, Reading};
 
 use super::Contestant;
-use crate::forms::{self, BlockAnswer, Mode, Offer, ReadAnswer, ReadOutcome, Reader, SearchAnswer, SendAnswer, Sender};
+use crate::forms::{self, BlockAnswer, Mode, Offer, ReadAnswer, Reader, SearchAnswer, SendAnswer, Sender};
 
 /// The model.
 pub struct Model;
@@ -41,22 +42,19 @@ impl Contestant for Model {
         }
     }
 
-    fn read(&self, state: Reader, line: &[u8], voice: &mut [u8], lsd: &mut [u8]) -> ReadOutcome {
-        let mut held = reader_in(&state);
+    fn read(&self, state: &mut Reader, line: &[u8], voice: &mut [u8], lsd: &mut [u8]) -> ReadAnswer {
+        let mut held = reader_in(state);
         match reader::read(&mut held, line, voice, lsd) {
             Ok(answer) => {
-                let block = block_answer(&answer);
-                ReadOutcome { state: reader_out(&held), answer: ReadAnswer { kind: 0, number: 0, block } }
+                *state = reader_out(&held);
+                forms::block(block_answer(&answer))
             }
-            Err(refusal) => forms::read_refused(state, refusal.number()),
+            Err(refusal) => forms::read_refused(refusal.number()),
         }
     }
 
     fn search(&self, recording: &[u8], start: usize) -> SearchAnswer {
-        match recording::search(recording, start) {
-            Ok(place) => SearchAnswer { number: 0, place },
-            Err(refusal) => SearchAnswer { number: refusal.number(), place: 0 },
-        }
+        forms::search_answer(recording::search(recording, start).map_err(Refusal::number))
     }
 
     fn list(&self, recording: &[u8], text: &mut [u8]) -> usize {

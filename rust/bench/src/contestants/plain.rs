@@ -1,7 +1,7 @@
 //! `plain`: straightforward Rust, built for speed by ordinary means (`src/plain/`).
 
 use super::Contestant;
-use crate::forms::{Offer, ReadOutcome, Reader, SearchAnswer, SendAnswer, Sender};
+use crate::forms::{self, Offer, ReadAnswer, Reader, SearchAnswer, SendAnswer, Sender};
 use crate::plain;
 
 /// The calls of `src/plain/`.
@@ -16,15 +16,12 @@ impl Contestant for Plain {
         plain::sender::send(state, offer, line)
     }
 
-    fn read(&self, state: Reader, line: &[u8], voice: &mut [u8], lsd: &mut [u8]) -> ReadOutcome {
+    fn read(&self, state: &mut Reader, line: &[u8], voice: &mut [u8], lsd: &mut [u8]) -> ReadAnswer {
         plain::reader::read(state, line, voice, lsd)
     }
 
     fn search(&self, recording: &[u8], start: usize) -> SearchAnswer {
-        match plain::search::search(recording, start) {
-            Ok(place) => SearchAnswer { number: 0, place },
-            Err(number) => SearchAnswer { number, place: 0 },
-        }
+        forms::search_answer(plain::search::search(recording, start))
     }
 
     fn list(&self, recording: &[u8], text: &mut [u8]) -> usize {

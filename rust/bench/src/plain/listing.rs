@@ -29,12 +29,11 @@ fn write_listing(recording: &[u8], text: &mut &mut [u8]) -> std::io::Result<()> 
     let (mut voice, mut lsd) = ([0; VOICE], [0; LSD]);
     let mut count = 0;
     while let Some(line) = recording.get(place..place + LINE) {
-        let outcome = reader::read(state, line, &mut voice, &mut lsd);
-        state = outcome.state;
+        let block = reader::read(&mut state, line, &mut voice, &mut lsd).block;
         place += LINE;
-        write_block(text, count, outcome.answer.block)?;
+        write_block(text, count, block)?;
         count += 1;
-        if outcome.answer.block.standing == LOST {
+        if block.standing == LOST {
             let Ok(found) = search(recording, place) else { break };
             place = found;
             writeln!(text, "found {place}")?;

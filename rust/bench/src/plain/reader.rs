@@ -2,7 +2,7 @@
 
 use super::bits::BitWriter;
 use super::{bas, codes, crc, slots};
-use crate::forms::{self, BlockAnswer, Mode, ReadAnswer, ReadOutcome, Reader, LINE, LSD, VOICE};
+use crate::forms::{self, BlockAnswer, Mode, ReadAnswer, Reader, LINE, LSD, VOICE};
 
 const PATTERN: u8 = 0b00_1011;
 const WAITING: u8 = 0;
@@ -10,18 +10,19 @@ const READ: u8 = 1;
 const LOST: u8 = 2;
 
 /// Reads one block and moves the state on, or refuses.
-pub fn read(state: Reader, line: &[u8], voice: &mut [u8], lsd: &mut [u8]) -> ReadOutcome {
-    if let Some(number) = refusal(&state, line, voice, lsd) {
-        return forms::read_refused(state, number);
+pub fn read(state: &mut Reader, line: &[u8], voice: &mut [u8], lsd: &mut [u8]) -> ReadAnswer {
+    if let Some(number) = refusal(state, line, voice, lsd) {
+        return forms::read_refused(number);
     }
-    let (next, block) = step(state, line);
+    let (next, block) = step(*state, line);
     if block.standing == READ {
         sort(state.mode, line, voice, lsd);
     } else {
         voice.fill(0);
         lsd.fill(0);
     }
-    ReadOutcome { state: next, answer: ReadAnswer { kind: 0, number: 0, block } }
+    *state = next;
+    forms::block(block)
 }
 
 /// Refusal 1 for a reader's state.

@@ -16,7 +16,7 @@ fn a_timed_search_finds_nothing() {
     let searcher = contestants::yardstick();
     for case in inputs::parts().iter().flat_map(|part| &part.cases) {
         if let Work::Search(recordings) = &case.work {
-            let nothing = forms::SearchAnswer { number: 10, place: 0 };
+            let nothing = forms::search_answer(Err(10));
             assert!(recordings.iter().all(|recording| searcher.search(recording, 0) == nothing), "{}", case.label);
         }
     }
@@ -32,8 +32,8 @@ fn a_timed_call_is_not_refused() {
                 model.send(&mut state, &input.offer(), &mut line).number != 0
             }),
             Work::Read(inputs) => inputs.iter().any(|input| {
-                let (mut voice, mut lsd) = ([0; forms::VOICE], [0; forms::LSD]);
-                model.read(input.state, &input.line, &mut voice, &mut lsd).answer.number != 0
+                let (mut state, mut voice, mut lsd) = (input.state, [0; forms::VOICE], [0; forms::LSD]);
+                model.read(&mut state, &input.line, &mut voice, &mut lsd).number != 0
             }),
             Work::Search(_) | Work::List(_) => false,
         };

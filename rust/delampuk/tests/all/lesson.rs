@@ -39,7 +39,7 @@ const SCENES: [Scene; 10] = [
 /// Six idle blocks, then the scenes; the microphone has an octet for each block.
 fn framed(microphone: impl Fn(usize) -> u8) -> Vec<[u8; LINE]> {
     let mut sender = Sender::new();
-    let scenes = std::iter::repeat_n(open(IDLE, Hears::Nothing), 6).chain(SCENES);
+    let scenes = [open(IDLE, Hears::Nothing); 6].into_iter().chain(SCENES);
     let block = |(number, (call, fate, ..)): (usize, Scene)| {
         let mut line = [0; LINE];
         let sent = sender.send(&call, &[microphone(number); VOICE], &[0; LSD], &mut line);
@@ -56,10 +56,11 @@ fn the_far_end_hears_the_lesson_and_nothing_of_the_mute() {
     let mut voice = [0; VOICE];
     for (number, line) in framed(microphone).iter().enumerate() {
         let block = reader.read(line, &mut voice, &mut [0; LSD]).expect("a framed block is read");
-        let Some((_, _, word, hears)) = number.checked_sub(6).map(|scene| SCENES[scene]) else {
+        if number < 6 {
             assert_eq!((block.standing, block.word), (Standing::Waiting, Word::NotRead), "block {number}");
             continue;
-        };
+        }
+        let (_, _, word, hears) = SCENES[number - 6];
         assert_eq!((block.standing, block.word), (Standing::Read, word), "block {number}");
         let heard = match hears {
             Hears::Nothing => 0,

@@ -32,5 +32,5 @@ fn what_is_no_preset_is_refused() {
     assert_eq!(Preset::read(BITS | 1), Err(Refusal::NotAPreset));
     assert_eq!(Preset::read(5 << 6), Err(Refusal::NotAPreset), "audio [0]");
     assert_eq!(Preset::read(24 << 11 | 5 << 6), Err(Refusal::NotAPreset), "they overlap");
-    assert_eq!(Sender::from_octets([0; 6]).preset(), Err(Refusal::BadState));
+    assert_eq!(Sender::load(&[0; 6]).expect("any octets load").preset(), Err(Refusal::BadState));
 }

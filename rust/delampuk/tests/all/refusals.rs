@@ -9,6 +9,14 @@ const FORGED_SENDER: [u8; 6] = [31, 31, 0, 9, 0, 0];
 /// A reader out of range: a run of 3 wrong words is a loss.
 const FORGED_READER: [u8; 12] = [31, 0, 31, 0, 3, 0, 63, 0, 0, 0, 0, 0];
 
+fn forged_sender() -> Sender {
+    Sender::load(&FORGED_SENDER).expect("any octets load")
+}
+
+fn forged_reader() -> Reader {
+    Reader::load(&FORGED_READER).expect("any octets load")
+}
+
 /// Sends with buffers of these lengths; asks that a refusal leaves the sender and the line block as they were.
 fn refused(mut sender: Sender, call: Call, voice: usize, lsd: usize, line: usize) -> Refusal {
     let before = sender.clone();
@@ -34,7 +42,7 @@ fn every_number_can_be_reached() {
     let idle = Call::offer(IDLE);
     let offered = |codes: &[u8], call: Call| refused(sender_after(codes), call, VOICE, LSD, LINE);
     let all = [
-        refused(Sender::from_octets(FORGED_SENDER), idle, VOICE, LSD, LINE),
+        refused(forged_sender(), idle, VOICE, LSD, LINE),
         refused(Sender::new(), idle, VOICE, LSD, LINE - 1),
         refused(Sender::new(), idle, VOICE + 1, LSD, LINE),
         refused(Sender::new(), idle, VOICE, 0, LINE),
@@ -52,7 +60,7 @@ fn every_number_can_be_reached() {
 #[test]
 fn a_reader_refuses_the_first_four() {
     let all = [
-        unread(Reader::from_octets(FORGED_READER), LINE, VOICE, LSD),
+        unread(forged_reader(), LINE, VOICE, LSD),
         unread(Reader::new(), LINE + 1, VOICE, LSD),
         unread(Reader::new(), LINE, 0, LSD),
         unread(Reader::new(), LINE, VOICE, LSD - 1),
@@ -71,7 +79,7 @@ fn a_walk_refuses_its_own_four() {
         refusal
     };
     let all = [
-        step(0, Reader::from_octets(FORGED_READER), VOICE, LSD),
+        step(0, forged_reader(), VOICE, LSD),
         step(0, Reader::new(), VOICE - 1, LSD),
         step(0, Reader::new(), VOICE, LSD + 1),
         step(recording.len() + 1, Reader::new(), VOICE, LSD),
@@ -81,9 +89,8 @@ fn a_walk_refuses_its_own_four() {
 
 #[test]
 fn the_smallest_number_goes_first() {
-    let forged = Sender::from_octets(FORGED_SENDER);
     let audio = Call::offer(SPEECH).muted();
-    assert_eq!(refused(forged, audio, 0, 0, 0), Refusal::BadState);
+    assert_eq!(refused(forged_sender(), audio, 0, 0, 0), Refusal::BadState);
     assert_eq!(refused(Sender::new(), audio, 0, 0, 0), Refusal::LineLength);
     assert_eq!(refused(Sender::new(), audio, 0, 0, LINE), Refusal::VoiceLength);
     assert_eq!(refused(Sender::new(), audio, VOICE, 0, LINE), Refusal::LsdLength);

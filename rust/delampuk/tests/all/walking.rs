@@ -1,6 +1,6 @@
 //! Walks over recordings, with a loss on the way.
 
-use delampuk::{list, search, Refusal, Standing, Step, Streams, Walk, LINE, LSD, TEXT_MAX, VOICE};
+use delampuk::{list, search, Refusal, Standing, Step, Streams, Walk, LINE, LISTING_MAX, LSD, VOICE};
 
 use crate::common::idle_blocks;
 
@@ -8,7 +8,7 @@ const NOISE: usize = 11;
 const SLIP: usize = 7;
 
 /// Noise, nine blocks, some octets that never belonged there, and nine blocks more with an end cut off.
-fn slipped() -> Vec<u8> {
+pub fn slipped() -> Vec<u8> {
     let blocks = idle_blocks(18);
     let (before, after) = blocks.split_at(9 * LINE);
     let end = after.len() - 5;
@@ -65,7 +65,7 @@ fn a_walk_is_saved_after_a_loss() {
     for _ in 0..12 {
         walk.step(&mut [0; VOICE], &mut [0; LSD]).expect("no step is refused");
     }
-    let mut loaded = Walk::from_octets(&recording, walk.to_octets());
+    let mut loaded = Walk::load(&recording, &walk.save()).expect("a walk was saved");
     assert_eq!(loaded, walk);
     assert!(matches!(loaded.step(&mut [0; VOICE], &mut [0; LSD]), Ok(Step::Place(_))));
 }
@@ -73,7 +73,7 @@ fn a_walk_is_saved_after_a_loss() {
 #[test]
 fn a_refusal_ends_an_iteration() {
     let recording = idle_blocks(2);
-    let walk = Walk::from_octets(&recording, [0xFF; Walk::OCTETS]);
+    let walk = Walk::load(&recording, &[0xFF; Walk::OCTETS]).expect("any octets load");
     assert_eq!(walk.into_iter().collect::<Vec<_>>(), [Err(Refusal::BadState)]);
 }
 
@@ -90,7 +90,7 @@ fn a_search_begins_where_it_is_told() {
 #[test]
 fn a_listing_of_the_walk() {
     let recording = slipped();
-    let mut text = [0; TEXT_MAX];
+    let mut text = [0; LISTING_MAX];
     let length = list(&recording, &mut text).expect("there is room for every listing");
     let lines: Vec<&str> = std::str::from_utf8(&text[..length]).expect("a listing is ASCII").lines().collect();
     assert_eq!(lines[..2], ["found 11", "0 waiting none --"]);

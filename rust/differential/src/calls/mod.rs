@@ -4,9 +4,11 @@
 //! `kept` says that no const buffer and nothing around the buffers changed. A refusal of the wrapper is a number
 //! alone: what C finds beside it is asked of the server.
 
+mod asking;
 mod listing;
 mod presets;
 mod reading;
+mod saving;
 mod searching;
 mod sending;
 mod walking;
@@ -21,10 +23,12 @@ use crate::server::{Answer, Request};
 use crate::smaller::Field;
 use crate::states::{self, Reader};
 
+pub use asking::{About, AboutLeft, Count, Explain, TellReader, TellSender};
 pub use listing::{List, ListLeft};
 pub use model::show::Octets;
 pub use presets::{ReadPreset, WritePreset};
 pub use reading::{Read, ReadLeft};
+pub use saving::{Load, LoadLeft, Save, SaveLeft, State};
 pub use searching::{Search, SearchLeft};
 pub use sending::{Fresh, Send, SendLeft};
 pub use walking::{StepLeft, WalkStep};

@@ -9,14 +9,14 @@ use crate::server::{Answer, Request};
 use crate::smaller::Field;
 use crate::states::{self, Sender};
 
-/// A driver that does not look at the number starts fresh and offers "data off", (011)[0].
-fn no_preset(number: u8) -> (Sender, u8, u8) {
-    (states::fresh_sender(), 0x60, number)
-}
+/// A driver that does not look at the number keeps its state and offers "data off", (011)[0].
+const DATA_OFF: u8 = 0x60;
 
 /// `delampuk_read_preset`.
 #[derive(Clone, Debug)]
 pub struct ReadPreset {
+    /// The state as it is lent.
+    pub state: Sender,
     /// The sixteen bits.
     pub bits: u16,
 }
@@ -26,30 +26,31 @@ impl Call for ReadPreset {
     type Left = (Sender, u8, u8);
 
     fn request(&self, request: &mut Request) {
-        request.octets(b"G").octets(&self.bits.to_le_bytes());
+        request.octets(b"G").octets(&self.state).octets(&self.bits.to_le_bytes());
     }
 
     fn left(&self, answer: &mut Answer) -> io::Result<Self::Left> {
         Ok((answer.array()?, answer.octet()?, answer.octet()?))
     }
 
+    /// The wrapper lends a state of its own, and gives it away where the preset is read.
     fn linked(&self) -> Self::Left {
         match delampuk::Preset::read(self.bits) {
-            Ok(preset) => (preset.sender.to_octets(), preset.offer, 0),
-            Err(refusal) => no_preset(refusal.number()),
+            Ok(preset) => (preset.sender.save(), preset.offer, 0),
+            Err(refusal) => (self.state, DATA_OFF, refusal.number()),
         }
     }
 
     fn expected(&self) -> Self::Left {
         match preset::read(self.bits) {
             Ok((state, offer)) => (states::sender_octets(&state), offer, 0),
-            Err(refusal) => no_preset(refusal.number()),
+            Err(refusal) => (self.state, DATA_OFF, refusal.number()),
         }
     }
 
     /// Sixteen bits are small as they are.
     fn fields(&mut self) -> Vec<Field<'_>> {
-        Vec::new()
+        vec![Field::Octets(&mut self.state, states::fresh_sender().into())]
     }
 }
 
@@ -73,7 +74,7 @@ impl Call for WritePreset {
     }
 
     fn linked(&self) -> Self::Left {
-        match delampuk::Sender::from_octets(self.state).preset() {
+        match states::linked_sender(self.state).preset() {
             Ok(bits) => (bits, 0),
             Err(refusal) => (0, refusal.number()),
         }

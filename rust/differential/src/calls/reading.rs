@@ -62,7 +62,7 @@ impl Call for Read {
     }
 
     fn linked(&self) -> ReadLeft {
-        let mut reader = delampuk::Reader::from_octets(self.state);
+        let mut reader = states::linked_reader(self.state);
         let mut room = Room::of([&self.line, &self.voice, &self.lsd]);
         let [line, voice, lsd] = room.lend();
         let (kind, number, block) = match reader.read(line, voice, lsd) {
@@ -70,7 +70,7 @@ impl Call for Read {
             Err(refusal) => (1, refusal.number(), NO_BLOCK),
         };
         let (voice, lsd) = (room.buffer(1), room.buffer(2));
-        ReadLeft { state: reader.to_octets(), kind, number, block, kept: room.kept([1, 2]), voice, lsd }
+        ReadLeft { state: reader.save(), kind, number, block, kept: room.kept([1, 2]), voice, lsd }
     }
 
     fn expected(&self) -> ReadLeft {

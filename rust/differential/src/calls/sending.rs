@@ -28,7 +28,7 @@ impl Call for Fresh {
     }
 
     fn linked(&self) -> Self::Left {
-        (delampuk::Sender::new().to_octets(), delampuk::Reader::new().to_octets())
+        (delampuk::Sender::new().save(), delampuk::Reader::new().save())
     }
 
     fn expected(&self) -> Self::Left {
@@ -95,7 +95,7 @@ impl Call for Send {
     fn linked(&self) -> SendLeft {
         let [a, e, t] = self.flags.map(|switch| switch != 0);
         let call = delampuk::Call { mute: self.mute != 0, code: self.code, a, e, t };
-        let mut sender = delampuk::Sender::from_octets(self.state);
+        let mut sender = states::linked_sender(self.state);
         let mut room = Room::of([&self.voice, &self.lsd, &self.line]);
         let [voice, lsd, line] = room.lend();
         let (kind, number) = match sender.send(&call, voice, lsd, line) {
@@ -103,7 +103,7 @@ impl Call for Send {
             Ok(Sent::Held) => (1, 0),
             Err(refusal) => (2, refusal.number()),
         };
-        SendLeft { kind, number, state: sender.to_octets(), kept: room.kept([2]), line: room.buffer(2) }
+        SendLeft { kind, number, state: sender.save(), kept: room.kept([2]), line: room.buffer(2) }
     }
 
     fn expected(&self) -> SendLeft {

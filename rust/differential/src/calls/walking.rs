@@ -53,16 +53,6 @@ pub struct StepLeft {
     pub lsd: Octets,
 }
 
-impl WalkStep {
-    /// The walk as the wrapper saves it: reader, mark and place.
-    fn walk(&self) -> [u8; delampuk::Walk::OCTETS] {
-        let mut octets = [self.lost; delampuk::Walk::OCTETS];
-        octets[..delampuk::Reader::OCTETS].copy_from_slice(&self.state);
-        octets[delampuk::Reader::OCTETS + 1..].copy_from_slice(&self.place.to_le_bytes());
-        octets
-    }
-}
-
 impl Call for WalkStep {
     type Left = StepLeft;
 
@@ -89,7 +79,8 @@ impl Call for WalkStep {
     fn linked(&self) -> StepLeft {
         let mut room = Room::of([&self.recording, &self.voice, &self.lsd]);
         let [recording, voice, lsd] = room.lend();
-        let mut walk = delampuk::Walk::from_octets(recording, self.walk());
+        let octets = states::walk(self.state, self.lost, self.place);
+        let mut walk = delampuk::Walk::load(recording, &octets).expect("21 octets are a walk");
         let (kind, number, block, value) = match walk.step(voice, lsd) {
             Ok(delampuk::Step::Block(block)) => (0, 0, by_wrapper(block), 0),
             Ok(delampuk::Step::Place(place)) => (1, 0, NO_BLOCK, place),
@@ -97,7 +88,7 @@ impl Call for WalkStep {
             Err(refusal) => (3, refusal.number(), NO_BLOCK, 0),
         };
         let place = walk.place();
-        let [state @ .., lost, _, _, _, _, _, _, _, _] = walk.to_octets();
+        let [state @ .., lost, _, _, _, _, _, _, _, _] = walk.save();
         let (voice, lsd) = (room.buffer(1), room.buffer(2));
         StepLeft { state, lost, place, kind, number, block, value, kept: room.kept([1, 2]), voice, lsd }
     }

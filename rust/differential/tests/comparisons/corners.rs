@@ -2,7 +2,7 @@
 
 use std::path::Path;
 
-use delampuk::TEXT_MAX;
+use delampuk::LISTING_MAX;
 use differential::calls::{Block, List, Octets, Read, ReadPreset, Search, Send, WalkStep, WritePreset};
 use differential::states;
 use model::codes::Mode;
@@ -128,13 +128,13 @@ fn block_answer([standing, verdict, reading, code]: Block) -> BlockAnswer {
 }
 
 fn listed(trial: &mut Trial, recording: Vec<u8>) -> Vec<String> {
-    let left = trial.call(&List { recording: Octets(recording), text: Octets(vec![0xA5; TEXT_MAX]) });
+    let left = trial.call(&List { recording: Octets(recording), text: Octets(vec![0xA5; LISTING_MAX]) });
     outcome::listed(std::str::from_utf8(&left.text.0[..left.length]).expect("a listing is text"))
 }
 
 fn preset_read(trial: &mut Trial, preset: &[u8]) -> Option<Vec<String>> {
     let bits = u16::from_be_bytes(preset.try_into().ok()?);
-    let (state, offer, number) = trial.call(&ReadPreset { bits });
+    let (state, offer, number) = trial.call(&ReadPreset { state: states::fresh_sender(), bits });
     Some(unless_refused(number, || outcome::preset_read(&states::sender(state), offer)))
 }
 

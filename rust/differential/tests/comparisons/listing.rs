@@ -1,6 +1,6 @@
 //! `delampuk_list`.
 
-use delampuk::TEXT_MAX;
+use delampuk::LISTING_MAX;
 use differential::calls::{List, Octets};
 use differential::draw;
 
@@ -11,7 +11,7 @@ use super::run;
 fn listings() {
     let reached = run("listings", 20, |trial| {
         let recording = Octets(draw::recording(&mut trial.random));
-        let room = if trial.random.percent(80) { TEXT_MAX } else { trial.random.below(200) };
+        let room = if trial.random.percent(80) { LISTING_MAX } else { trial.random.below(200) };
         let text = Octets(trial.random.octets(room));
         trial.call(&List { recording, text });
     });

@@ -1,9 +1,11 @@
 //! The comparisons, over whichever way to the library the test program names.
 
+mod asking;
 mod corners;
 mod listing;
 mod presets;
 mod reading;
+mod saving;
 mod searching;
 mod sending;
 mod walking;

@@ -9,7 +9,8 @@ use super::run;
 fn every_preset_is_read() {
     run("every_preset_is_read", u64::MAX, |trial| {
         for bits in 0..=u16::MAX {
-            trial.call(&ReadPreset { bits });
+            let state = draw::sender(&mut trial.random);
+            trial.call(&ReadPreset { state, bits });
         }
     });
 }

@@ -1,7 +1,7 @@
 //! Bit places: a second formulation by octets and a table, against the owner of each place.
 
 use crate::common::{Reader, Sender};
-use model::codes::{self, Mode};
+use model::codes::{self, Kind, Mode};
 use model::forge::{filler, mode, reading, sending};
 use model::frame::{self, Owner};
 
@@ -55,6 +55,52 @@ fn bits_per_frame() {
     }
     assert_eq!((0..=255).filter(|&audio| codes::held_audio(audio)).count(), WIDTHS.len());
     assert_eq!((0..=255).filter(|&data| codes::listed_data(data)).count(), DATA.len());
+}
+
+#[test]
+fn what_counts_of_the_buffers() {
+    let mut counted = 0;
+    for audio in 0..=255 {
+        for data in 0..=255 {
+            let width = WIDTHS.iter().find(|&&(value, _)| value == audio).map_or(0, |&(_, width)| width);
+            let bits = DATA.get(usize::from(data)).map_or(0, |&(.., bits)| bits);
+            let mode = Mode { audio, data };
+            assert_eq!((mode.voice_octets(), mode.data_bits()), (20 * width, 2 * bits), "{mode:?}");
+            counted += usize::from(mode.voice_octets() > 0 && mode.data_bits() > 0);
+        }
+    }
+    assert_eq!(counted, 10 * 14);
+}
+
+/// The places of a stream are one range of octet bits and one of octets, as the table has them.
+#[test]
+fn what_a_code_holds() {
+    for code in 0..=255_u8 {
+        let value = codes::value(code);
+        let (bits, octets) = match codes::kind(code) {
+            Kind::Audio => {
+                let width = WIDTHS.iter().find(|&&(audio, _)| audio == value).expect("it is listed").1;
+                (1..width + 1, 0..0)
+            }
+            Kind::Data => {
+                let (first, sc_first, sc_last, _) = DATA[usize::from(value)];
+                (first..8, sc_first..sc_last + 1)
+            }
+            _ => (0..0, 0..0),
+        };
+        assert_eq!(codes::octet_bits(code), bits.collect::<Vec<_>>(), "{code:02X}");
+        assert_eq!(codes::service_octets(code), octets.collect::<Vec<_>>(), "{code:02X}");
+    }
+}
+
+#[test]
+fn kinds_of_codes() {
+    let of_kind = |kind| (0..=255).filter(|&code| codes::kind(code) == kind).collect::<Vec<u8>>();
+    assert_eq!(of_kind(Kind::Neutral), [0]);
+    assert_eq!(of_kind(Kind::Audio), [11, 18, 19, 20, 21, 24, 25, 27, 28, 29, 31]);
+    assert_eq!(of_kind(Kind::Data), (0x60..=0x6E).collect::<Vec<_>>());
+    assert_eq!(of_kind(Kind::Escape), (0xE0..=0xF7).collect::<Vec<_>>());
+    assert_eq!(of_kind(Kind::Message), (0xF9..=0xFF).collect::<Vec<_>>());
 }
 
 #[test]

@@ -10,6 +10,7 @@ mod layout;
 mod presets;
 mod reading;
 mod refusals;
+mod saved;
 mod sending;
 mod sessions;
 mod stored;

@@ -1,0 +1,3 @@
+pub mod SendLaws
+pub mod ReadLaws
+pub mod PresetLaws

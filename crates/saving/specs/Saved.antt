@@ -1,0 +1,124 @@
+-- Saved forms of states: their octets in order, and a state back from them. docs/SAVED.md has a row for each form.
+use mathlib.Core.Bool.{cond}
+use mathlib.Core.List.{List, [], _∷_, _++_}
+use Prim.Native.Nat.{ℕ, zero, suc, _+_, _/_, _%_}
+use lib.Dec.{eqb}
+use lib.ListN.{length, getD}
+use Rattle.bits.specs.Bits.{eightAt}
+use Rattle.control.specs.declared.Sender.{Sender}
+use Rattle.track.specs.declared.Reader.{Reader}
+use Rattle.answers.specs.Answers.{reservedOctets}
+use Rattle.calls.specs.declared.WalkState.{WalkState}
+use Rattle.saving.specs.declared.SenderLoad.{SenderLoad}
+use Rattle.saving.specs.declared.ReaderLoad.{ReaderLoad}
+use Rattle.saving.specs.declared.WalkLoad.{WalkLoad}
+
+-- ---- a form is written over a buffer of its own length, and over no other
+abbrev pub saveAnswer : List ℕ → List ℕ → ℕ
+saveAnswer octets buffer = cond (eqb (length buffer) (length octets)) 1 0
+
+abbrev pub savedOver : List ℕ → List ℕ → List ℕ
+savedOver octets buffer = cond (eqb (length buffer) (length octets)) octets buffer
+
+-- ---- a sender: 6 octets
+abbrev pub senderOctets : Sender → List ℕ
+senderOctets s = s .chosen ∷ s .mode .audio ∷ s .mode .lsd ∷ s .block .0 ∷ s .due ∷ s .remainder ∷ []
+
+-- what saving one answers, and what the buffer holds then
+abbrev pub senderSaved : Sender → List ℕ → ℕ
+senderSaved s buffer = saveAnswer (senderOctets s) buffer
+
+abbrev pub senderKept : Sender → List ℕ → List ℕ
+senderKept s buffer = savedOver (senderOctets s) buffer
+
+abbrev pub senderIn : List ℕ → Sender
+senderIn xs =
+    record {
+      chosen = getD xs 0 0;
+      mode = record { audio = getD xs 1 0; lsd = getD xs 2 0 };
+      block = record { 0 = getD xs 3 0 };
+      due = getD xs 4 0;
+      remainder = getD xs 5 0;
+    }
+
+-- loading by the length of a form; what is no saved form leaves the state as it was
+abbrev pub senderLoaded : Sender → List ℕ → SenderLoad
+senderLoaded s xs = cond (eqb (length xs) 6) (record { state = senderIn xs; answer = 1 }) (record { state = s; answer = 0 })
+
+-- ---- a reader: 12 octets
+abbrev pub readerOctets : Reader → List ℕ
+readerOctets s =
+    s .mode .audio
+    ∷ s .mode .lsd
+    ∷ s .kept .audio
+    ∷ s .kept .lsd
+    ∷ s .wrong
+    ∷ s .block .0
+    ∷ s .firsts
+    ∷ s .misses
+    ∷ s .slot .kind
+    ∷ s .slot .words
+    ∷ s .before
+    ∷ s .remainder
+    ∷ []
+
+-- what saving one answers, and what the buffer holds then
+abbrev pub readerSaved : Reader → List ℕ → ℕ
+readerSaved s buffer = saveAnswer (readerOctets s) buffer
+
+abbrev pub readerKept : Reader → List ℕ → List ℕ
+readerKept s buffer = savedOver (readerOctets s) buffer
+
+abbrev pub readerIn : List ℕ → Reader
+readerIn xs =
+    record {
+      mode = record { audio = getD xs 0 0; lsd = getD xs 1 0 };
+      kept = record { audio = getD xs 2 0; lsd = getD xs 3 0 };
+      wrong = getD xs 4 0;
+      block = record { 0 = getD xs 5 0 };
+      firsts = getD xs 6 0;
+      misses = getD xs 7 0;
+      slot = record { kind = getD xs 8 0; words = getD xs 9 0 };
+      before = getD xs 10 0;
+      remainder = getD xs 11 0;
+    }
+
+abbrev pub readerLoaded : Reader → List ℕ → ReaderLoad
+readerLoaded s xs = cond (eqb (length xs) 12) (record { state = readerIn xs; answer = 1 }) (record { state = s; answer = 0 })
+
+-- ---- a walk: its reader's 12 octets, the mark of a lost block, and the place in eight octets, the lowest first
+unfoldable pub lowFirst : ℕ → ℕ → List ℕ
+lowFirst zero n = []
+lowFirst (suc k) n = n % 256 ∷ lowFirst k (n / 256)
+
+abbrev pub walkOctets : WalkState → List ℕ
+walkOctets w = readerOctets (w .reader) ++ (w .lost ∷ lowFirst 8 (w .place))
+
+-- what saving one answers, and what the buffer holds then
+abbrev pub walkSaved : WalkState → List ℕ → ℕ
+walkSaved s buffer = saveAnswer (walkOctets s) buffer
+
+abbrev pub walkKept : WalkState → List ℕ → List ℕ
+walkKept s buffer = savedOver (walkOctets s) buffer
+
+-- the number of the eight octets from a place on, the lowest first: the same octets with the highest first are one number
+abbrev pub eightLowFirst : List ℕ → ℕ → ℕ
+eightLowFirst xs at =
+    eightAt
+    (getD xs (at + 7) 0
+    ∷ getD xs (at + 6) 0
+    ∷ getD xs (at + 5) 0
+    ∷ getD xs (at + 4) 0
+    ∷ getD xs (at + 3) 0
+    ∷ getD xs (at + 2) 0
+    ∷ getD xs (at + 1) 0
+    ∷ getD xs at 0
+    ∷ [])
+    0
+
+abbrev pub walkIn : List ℕ → WalkState
+walkIn xs =
+    record { place = eightLowFirst xs 13; reader = readerIn xs; lost = getD xs 12 0; reserved = reservedOctets 3 }
+
+abbrev pub walkLoaded : WalkState → List ℕ → WalkLoad
+walkLoaded w xs = cond (eqb (length xs) 21) (record { state = walkIn xs; answer = 1 }) (record { state = w; answer = 0 })
