@@ -1,8 +1,10 @@
 //! Help, version, and calls that are wrong.
 
-use crate::common::{finished, run};
+use std::fs;
 
-const SUBCOMMANDS: [&str; 3] = ["send", "hear", "list"];
+use crate::common::{finished, in_repository, run};
+
+const SUBCOMMANDS: [&str; 4] = ["send", "hear", "list", "picture"];
 
 #[test]
 fn help_names_every_subcommand() {
@@ -51,6 +53,26 @@ fn wrong_calls_have_status_2_and_write_nothing() {
         assert_eq!((ran.status, ran.out.len()), (2, 0), "{words:?}");
         assert!(ran.error.starts_with("delampuk") && ran.error.contains("--help"), "{words:?}: {}", ran.error);
     }
+}
+
+/// The options are the words of the help that begin a line with two dashes.
+#[test]
+fn the_man_page_has_every_subcommand_and_option() {
+    let page =
+        fs::read_to_string(in_repository("rust/delampuk-cli/delampuk.1")).expect("it is there").replace("\\-", "-");
+    assert!(page.starts_with(concat!(".TH DELAMPUK 1 \"\" \"delampuk ", env!("CARGO_PKG_VERSION"), "\"")));
+    let mut options = 0;
+    for name in SUBCOMMANDS {
+        assert!(page.contains(&format!("\n.SS {name}\n")), "{name}");
+        let help = run(&[name, "--help"], b"");
+        for option in help.text().lines().filter_map(|line| line.strip_prefix("  --")) {
+            let option = option.split(' ').next().expect("a word follows");
+            let named = [format!("\n.B --{option}\n"), format!("\n.BI --{option} \"")];
+            assert!(named.iter().any(|named| page.contains(named)), "{name} --{option}");
+            options += 1;
+        }
+    }
+    assert!(options >= 8, "{options} options");
 }
 
 /// A name that is no text is told, and is no panic.

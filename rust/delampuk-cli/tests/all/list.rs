@@ -4,7 +4,7 @@ use std::fs;
 
 use delampuk::{LISTING_MAX, RECORDING_MAX};
 
-use crate::common::{in_repository, run, run_in_pieces, sent};
+use crate::common::{in_repository, run, run_in_pieces, scratch, sent};
 use crate::random::recordings;
 
 fn listing(recording: &[u8]) -> Vec<u8> {
@@ -72,6 +72,18 @@ fn a_recording_of_any_length_is_listed_whole() {
     assert_eq!(lines[1000..1004], ["999 read good 80", "1000 read bad --", "1001 read good --", "1002 lost none --"]);
     assert_eq!(lines[1004], format!("found {}", 160_000 + RECORDING_MAX + 7));
     assert_eq!(lines[2003..], ["2001 read good 80", "2002 read good 80", "left 5"]);
+}
+
+/// A search looks at a window of 65,536 octets, and the next window begins with the first place that was not tried.
+#[test]
+fn a_place_at_the_end_of_a_window_is_found() {
+    let blocks = sent(&["80*3"], b"");
+    let file = scratch("windows");
+    for place in (RECORDING_MAX - 170..RECORDING_MAX - 160).chain([RECORDING_MAX, 2 * RECORDING_MAX - 334]) {
+        fs::write(&file, [&vec![0; place], &blocks[..]].concat()).expect("it can be written");
+        let ran = run(&["list", file.to_str().expect("its name is text")], b"");
+        assert_eq!(ran.text().lines().next(), Some(format!("found {place}").as_str()));
+    }
 }
 
 #[test]

@@ -1,9 +1,11 @@
 //! Streams that cannot be read or written, and inputs that are empty or huge.
 
 use std::fs::{File, OpenOptions};
-use std::io::Write;
+use std::io::{BufRead, BufReader, Write};
 use std::process::{Command, Stdio};
+use std::sync::mpsc;
 use std::thread;
+use std::time::Duration;
 
 use crate::common::{command, finished, in_repository, run, sent};
 
@@ -115,12 +117,13 @@ fn a_huge_input_needs_little_memory() {
 /// A line is there as soon as its block is, while the recording goes on.
 #[test]
 fn blocks_are_told_as_they_come() {
-    use std::io::{BufRead, BufReader};
     let recording = sent(&["80*3"], b"");
     let mut child = command(&["list"]).stdin(Stdio::piped()).spawn().expect("it is built");
     let mut pipe = child.stdin.take().expect("its input is a pipe");
-    let mut lines = BufReader::new(child.stdout.take().expect("its output is a pipe")).lines();
-    let mut next = move || lines.next().expect("a line comes").expect("it can be read");
+    let lines = BufReader::new(child.stdout.take().expect("its output is a pipe")).lines();
+    let (teller, told) = mpsc::channel();
+    thread::spawn(move || lines.map_while(Result::ok).try_for_each(|line| teller.send(line)));
+    let next = || told.recv_timeout(Duration::from_secs(20)).expect("a line comes in time");
     pipe.write_all(&recording[..200]).expect("it is read");
     assert_eq!([next(), next()], ["found 0", "0 waiting none --"]);
     pipe.write_all(&recording[200..320]).expect("it is read");
