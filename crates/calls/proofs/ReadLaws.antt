@@ -19,7 +19,7 @@ use Rattle.calls.specs.Reading.{readTaken, ReadTold}
 use Rattle.calls.specs.Walking.{markAfter, stepTaken, stepBuffers, StepTold}
 use Rattle.answers.specs.declared.ReadAnswer.{ReadAnswer}
 use Rattle.answers.specs.declared.StepAnswer.{StepAnswer}
-use Rattle.calls.specs.declared.WalkState.{WalkState}
+use Rattle.saving.specs.declared.WalkState.{WalkState}
 
 module _ (s : Reader) (line : List ℕ) (b : Buffers) where
   -- any two outcomes that the contract of `delampuk_read` allows are equal

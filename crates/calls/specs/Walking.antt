@@ -11,7 +11,7 @@ use Rattle.recording.specs.Walk.{stepAt, buffersAt}
 use Rattle.answers.specs.Answers.{reservedOctets, stepAnswerOf}
 use Rattle.answers.specs.declared.StepAnswer.{StepAnswer}
 use Rattle.calls.specs.Sending.{on}
-use Rattle.calls.specs.declared.WalkState.{WalkState}
+use Rattle.saving.specs.declared.WalkState.{WalkState}
 use Rattle.calls.specs.declared.WalkStepped.{WalkStepped}
 
 -- a walk that begins at a place, with a fresh reader

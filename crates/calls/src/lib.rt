@@ -15,17 +15,8 @@ use answers::SendAnswer;
 use answers::StepAnswer;
 use control::Call;
 use control::Sender;
+use saving::WalkState;
 use track::Reader;
-
-// A walk without its recording: where it stands, its reader, and a mark that is not 0 where the block before was lost. Reserved octets are kept
-// as they are.
-#[repr(C)]
-pub struct WalkState {
-    pub place: usize,
-    pub reader: Reader,
-    pub lost: u8,
-    pub reserved: [u8; 3],
-}
 
 pub struct SendStepped {
     pub state: Sender,

@@ -28,9 +28,9 @@ use asking::Counts;
 use asking::Library;
 use asking::ReaderTold;
 use asking::SenderTold;
-use calls::WalkState;
 use control::Sender;
 use modes::Mode;
+use saving::WalkState;
 use track::Reader;
 
 // Which library this is.

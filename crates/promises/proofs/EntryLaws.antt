@@ -41,7 +41,7 @@ use Rattle.presets.specs.Presets.{presetRead, presetNumber}
 use Rattle.calls.specs.Sending.{on}
 use Rattle.calls.specs.Sending as call-sends
 use Rattle.calls.specs.Walking.{markAfter}
-use Rattle.calls.specs.declared.WalkState.{WalkState}
+use Rattle.saving.specs.declared.WalkState.{WalkState}
 use Rattle.calls.proofs.ReadLaws.{mark-still}
 use Rattle.buffers.specs.Lengths.{zeroed}
 use Rattle.promises.specs.Session.{Turn, turned}

@@ -39,7 +39,7 @@ use Rattle.calls.specs.Sending.{callOf, SendTold}
 use Rattle.calls.specs.Reading.{ReadTold}
 use Rattle.calls.specs.Walking.{StepTold}
 use Rattle.calls.specs.Presets.{PresetTold, presetGiven}
-use Rattle.calls.specs.declared.WalkState.{WalkState}
+use Rattle.saving.specs.declared.WalkState.{WalkState}
 use Rattle.promises.specs.Demand1.{Row, row, first, Refuses, held, sendingRows, readingRows, searchingRows, steppingRows}
 
 -- ---- `reader::look`: rows 1 and 2, for it is lent no buffers

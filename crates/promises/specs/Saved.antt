@@ -3,11 +3,10 @@
 use mathlib.Core.Path.{_≡_}
 use mathlib.Core.List.{List}
 use Prim.Native.Nat.{ℕ, _<_, _^_}
-use lib.ListN.{length}
+use lib.ListN.{length, replicate}
 use Rattle.control.specs.declared.Sender.{Sender}
 use Rattle.track.specs.declared.Reader.{Reader}
-use Rattle.answers.specs.Answers.{reservedOctets}
-use Rattle.calls.specs.declared.WalkState.{WalkState}
+use Rattle.saving.specs.declared.WalkState.{WalkState}
 use Rattle.saving.specs.Saved.{senderSaved, senderKept, senderLoaded, readerSaved, readerKept, readerLoaded, walkSaved, walkKept, walkLoaded}
 use Rattle.saving.specs.declared.SenderLoad.{SenderLoad}
 use Rattle.saving.specs.declared.ReaderLoad.{ReaderLoad}
@@ -30,4 +29,4 @@ SavesReader = Saves Reader ReaderLoad 12 readerSaved readerKept readerLoaded (λ
 abbrev pub SavesWalk : Type 0
 SavesWalk =
     Saves WalkState WalkLoad 21 walkSaved walkKept walkLoaded (λ w n. record { state = w; answer = n })
-    (λ w. (w .place < 2 ^ 64) × (w .reserved ≡ reservedOctets 3))
+    (λ w. (w .place < 2 ^ 64) × (w .reserved ≡ replicate 3 0))

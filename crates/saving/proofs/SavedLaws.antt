@@ -4,13 +4,12 @@ use mathlib.Core.Bool.{true}
 use mathlib.Core.List.{List, [], _∷_}
 use Prim.Native.Nat.{ℕ, _+_, _*_, _/_, _%_, _<_, _^_}
 use native.Mathlib.Omega.{arith}
-use lib.ListN.{length}
+use lib.ListN.{length, replicate}
 use Rattle.bits.specs.Bits.{numberAt}
 use Rattle.text.specs.Over.{over, overAt, Written}
 use Rattle.control.specs.declared.Sender.{Sender}
 use Rattle.track.specs.declared.Reader.{Reader}
-use Rattle.answers.specs.Answers.{reservedOctets}
-use Rattle.calls.specs.declared.WalkState.{WalkState}
+use Rattle.saving.specs.declared.WalkState.{WalkState}
 use Rattle.saving.specs.Saved.{senderOctets, senderLoaded, readerOctets, readerLoaded, lowFirst, eightLowFirst, walkOctets, walkLoaded}
 
 over-whole : (xs a : List ℕ) → length a ≡ length xs → over xs a ≡ xs
@@ -54,7 +53,7 @@ place-back w fits =
     let first : 0 * 256 + p6 / 256 % 256 % 256 ≡ p6 / 256 = omega (arith, top) in
     rw (first, joined p6, joined p5, joined p4, joined p3, joined p2, joined p1, joined (w .place))
 
-pub walk-back : (w was : WalkState) → w .place < 2 ^ 64 → w .reserved ≡ reservedOctets 3
+pub walk-back : (w was : WalkState) → w .place < 2 ^ 64 → w .reserved ≡ replicate 3 0
     → walkLoaded was (walkOctets w) ≡ record { state = w; answer = 1 }
 unfolding lowFirst
 walk-back w was fits none =

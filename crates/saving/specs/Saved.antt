@@ -3,12 +3,11 @@ use mathlib.Core.Bool.{cond}
 use mathlib.Core.List.{List, [], _∷_, _++_}
 use Prim.Native.Nat.{ℕ, zero, suc, _+_, _/_, _%_}
 use lib.Dec.{eqb}
-use lib.ListN.{length, getD}
+use lib.ListN.{length, getD, replicate}
 use Rattle.bits.specs.Bits.{eightAt}
 use Rattle.control.specs.declared.Sender.{Sender}
 use Rattle.track.specs.declared.Reader.{Reader}
-use Rattle.answers.specs.Answers.{reservedOctets}
-use Rattle.calls.specs.declared.WalkState.{WalkState}
+use Rattle.saving.specs.declared.WalkState.{WalkState}
 use Rattle.saving.specs.declared.SenderLoad.{SenderLoad}
 use Rattle.saving.specs.declared.ReaderLoad.{ReaderLoad}
 use Rattle.saving.specs.declared.WalkLoad.{WalkLoad}
@@ -118,7 +117,7 @@ eightLowFirst xs at =
 
 abbrev pub walkIn : List ℕ → WalkState
 walkIn xs =
-    record { place = eightLowFirst xs 13; reader = readerIn xs; lost = getD xs 12 0; reserved = reservedOctets 3 }
+    record { place = eightLowFirst xs 13; reader = readerIn xs; lost = getD xs 12 0; reserved = replicate 3 0 }
 
 abbrev pub walkLoaded : WalkState → List ℕ → WalkLoad
 walkLoaded w xs = cond (eqb (length xs) 21) (record { state = walkIn xs; answer = 1 }) (record { state = w; answer = 0 })

@@ -4,12 +4,21 @@ ghost use mathlib.Core.Path.{_≡_};
 ghost use Prim.Native.Nat.{_≤_};
 ghost use lib.ListN.{length};
 ghost use Rattle.saving.specs.Saved.{saveAnswer, savedOver, senderSaved, senderKept, senderLoaded, readerSaved, readerKept, readerLoaded, walkSaved, walkKept, walkLoaded, readerIn, eightLowFirst};
-use calls::WalkState;
 use control::Sender;
 use modes::BlockNumber;
 use modes::Mode;
 use slots::Slot;
 use track::Reader;
+
+// A walk without its recording: where it stands, its reader, and a mark that is not 0 where the block before was lost. Reserved octets are kept
+// as they are.
+#[repr(C)]
+pub struct WalkState {
+    pub place: usize,
+    pub reader: Reader,
+    pub lost: u8,
+    pub reserved: [u8; 3],
+}
 
 // The state that is left, and 1 where the octets were a saved form, 0 where they were none and the state is the one given.
 pub struct SenderLoad {

@@ -44,9 +44,9 @@ use denote.Triple.Walked.{says, Stays, stay-ref, stay-none-slice, walkOf, AllGo,
 use denote.Exit.{yes}
 use Rattle.buffers.specs.Buffers.{each}
 use Rattle.saving.specs.Saved.{walkLoaded}
-use Rattle.calls.specs.declared.WalkState.{WalkState}
-use Rattle.calls.proofs.WalkState as T
-use Rattle.calls.proofs.WalkState.Laws as T′
+use Rattle.saving.specs.declared.WalkState.{WalkState}
+use Rattle.saving.proofs.WalkState as T
+use Rattle.saving.proofs.WalkState.Laws as T′
 use Rattle.saving.specs.declared.WalkLoad.{WalkLoad}
 use Rattle.saving.proofs.WalkLoad as S
 use Rattle.saving.proofs.WalkLoad.Laws as S′

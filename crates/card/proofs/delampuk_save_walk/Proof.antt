@@ -43,9 +43,9 @@ use denote.Triple.Walked.{says, Stays, stay-none-ref, gave-slice, walkOf, AllGo,
 use denote.Exit.{yes}
 use Rattle.buffers.specs.Buffers.{each}
 use Rattle.saving.specs.Saved.{walkSaved, walkKept}
-use Rattle.calls.specs.declared.WalkState.{WalkState}
-use Rattle.calls.proofs.WalkState as T
-use Rattle.calls.proofs.WalkState.Laws as T′
+use Rattle.saving.specs.declared.WalkState.{WalkState}
+use Rattle.saving.proofs.WalkState as T
+use Rattle.saving.proofs.WalkState.Laws as T′
 use Rattle.saving.proofs.save_walk as save-walk′
 use Rattle.saving.proofs.save_walk.Symbol as save-walk-def
 use Rattle.saving.proofs.save_walk.Symbol.{name as #saving·save-walk}
