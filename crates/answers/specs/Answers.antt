@@ -2,30 +2,25 @@
 use mathlib.Core.List.{List}
 use Prim.Native.Nat.{ℕ}
 use lib.ListN.{replicate}
-use Rattle.slots.specs.Readings.{readingKind, readingCode}
-use Rattle.slots.specs.declared.Reading.the-variants.{NotRead}
+use Rattle.words.specs.Readings.{readingKind, readingCode}
+use Rattle.words.specs.declared.Reading.the-variants.{NotRead}
 use Rattle.control.specs.Refusals as sending
 use Rattle.control.specs.declared.Answer as sent
 use Rattle.track.specs.Parts.{verdictNumber, standingNumber}
 use Rattle.track.specs.declared.Standing.the-variants.{Waiting}
 use Rattle.track.specs.declared.Verdict.the-variants.{None}
 use Rattle.track.specs.declared.Report.{Report}
-use Rattle.reader.specs.Refusals as reading
-use Rattle.reader.specs.declared.Answer as read
+use Rattle.reading.specs.Refusals as reading
+use Rattle.reading.specs.declared.Answer as read
 use Rattle.search.specs.Finding.{foundNumber, foundPlace}
 use Rattle.search.specs.declared.Found.{Found}
 use Rattle.recording.specs.Refusals as walking
-use Rattle.presets.specs.Presets.{presetNumber, writtenNumber, writtenBits}
-use Rattle.presets.specs.declared.PresetRead.{PresetRead}
-use Rattle.presets.specs.declared.PresetWritten.{PresetWritten}
 use Rattle.recording.specs.declared.Answer as walked
 use Rattle.answers.specs.declared.SendAnswer.{SendAnswer}
 use Rattle.answers.specs.declared.BlockAnswer.{BlockAnswer}
 use Rattle.answers.specs.declared.ReadAnswer.{ReadAnswer}
 use Rattle.answers.specs.declared.SearchAnswer.{SearchAnswer}
 use Rattle.answers.specs.declared.StepAnswer.{StepAnswer}
-use Rattle.answers.specs.declared.PresetAnswer.{PresetAnswer}
-use Rattle.answers.specs.declared.PresetBits.{PresetBits}
 
 -- a sending call's answer
 abbrev pub sendAnswerOf : sent.Answer → SendAnswer
@@ -83,10 +78,3 @@ stepAnswerOf a =
     block (walked.the-variants.Place p) = nothingRead
     block (walked.the-variants.End left) = nothingRead
     block (walked.the-variants.Refused r) = nothingRead
-
--- that of a preset that is read, beside the state to start from, and that of one that is written
-abbrev pub presetAnswerOf : PresetRead → PresetAnswer
-presetAnswerOf p = record { offer = p .offer; number = presetNumber (p .answer) }
-
-abbrev pub presetBitsOf : PresetWritten → PresetBits
-presetBitsOf w = record { bits = writtenBits w; number = writtenNumber w; reserved = 0 }

@@ -1,14 +1,13 @@
 // What calls answer, in the numbers that cross to C: document 01's number and values for each case, by the definitions of specs/.
 ghost use mathlib.Core.Path.{_≡_};
-ghost use Rattle.slots.specs.Readings.{readingKind, readingCode};
+ghost use Rattle.words.specs.Readings.{readingKind, readingCode};
 ghost use Rattle.track.specs.Parts.{standingNumber, verdictNumber};
-ghost use Rattle.presets.specs.Presets.{presetNumber};
-ghost use Rattle.answers.specs.Answers.{sendAnswerOf, blockAnswerOf, nothingRead, readAnswerOf, searchAnswerOf, stepAnswerOf, presetAnswerOf, presetBitsOf};
+ghost use Rattle.answers.specs.Answers.{sendAnswerOf, blockAnswerOf, nothingRead, readAnswerOf, searchAnswerOf, stepAnswerOf};
 use search::Found;
-use slots::Reading;
 use track::Report;
 use track::Standing;
 use track::Verdict;
+use words::Reading;
 
 // Kind 0 is sent, 1 held and 2 refused; the number is that of the refusal, or 0.
 #[repr(C)]
@@ -51,21 +50,6 @@ pub struct StepAnswer {
     pub number: u8,
     pub block: BlockAnswer,
     pub reserved: [u8; 2],
-}
-
-// The data code to offer and number 0, or "data off" and the refusal's number.
-#[repr(C)]
-pub struct PresetAnswer {
-    pub offer: u8,
-    pub number: u8,
-}
-
-// A preset and number 0, or 0 and a refusal's number.
-#[repr(C)]
-pub struct PresetBits {
-    pub bits: u16,
-    pub number: u8,
-    pub reserved: u8,
 }
 
 // A sending call's answer.
@@ -164,12 +148,12 @@ fn no_block() -> BlockAnswer
 }
 
 // A reading call's answer.
-pub fn read_answer(answer: reader::Answer) -> ReadAnswer
+pub fn read_answer(answer: reading::Answer) -> ReadAnswer
     ensures { λ r. ⌜ r ≡ readAnswerOf answer ⌝ }
 {
     let nothing = no_block();
     match answer {
-        reader::Answer::Block(report) => {
+        reading::Answer::Block(report) => {
             let block = block_answer(report);
             ReadAnswer {
                 kind: 0,
@@ -177,7 +161,7 @@ pub fn read_answer(answer: reader::Answer) -> ReadAnswer
                 block: block,
             }
         }
-        reader::Answer::Refused(why) => {
+        reading::Answer::Refused(why) => {
             let number = refusals::number_of(why);
             ReadAnswer {
                 kind: 1,
@@ -247,48 +231,6 @@ pub fn step_answer(answer: recording::Answer) -> StepAnswer
                 number: number,
                 block: nothing,
                 reserved: [0; 2],
-            }
-        }
-    }
-}
-
-fn preset_number(answer: presets::PresetAnswer) -> u8
-    ensures { λ r. ⌜ r ≡ presetNumber answer ⌝ }
-{
-    match answer {
-        presets::PresetAnswer::Read => 0,
-        presets::PresetAnswer::Unread(why) => refusals::number_of(why),
-    }
-}
-
-// A preset that was read: the data code to offer.
-pub fn preset_answer(read: presets::PresetRead) -> PresetAnswer
-    ensures { λ r. ⌜ r ≡ presetAnswerOf read ⌝ }
-{
-    let answer = read.answer;
-    let number = preset_number(answer);
-    PresetAnswer {
-        offer: read.offer,
-        number: number,
-    }
-}
-
-// A preset that was written.
-pub fn preset_bits(written: presets::PresetWritten) -> PresetBits
-    ensures { λ r. ⌜ r ≡ presetBitsOf written ⌝ }
-{
-    match written {
-        presets::PresetWritten::Bits(bits) => PresetBits {
-            bits: bits,
-            number: 0,
-            reserved: 0,
-        },
-        presets::PresetWritten::Unwritten(why) => {
-            let number = refusals::number_of(why);
-            PresetBits {
-                bits: 0,
-                number: number,
-                reserved: 0,
             }
         }
     }

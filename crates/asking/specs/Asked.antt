@@ -1,13 +1,12 @@
 -- Document 01, 'Codes and bit places' and 'Slots': what a driver can ask.
 use mathlib.Core.Bool.{cond}
-use Prim.Native.Nat.{ℕ, _*_, _/_}
+use Prim.Native.Nat.{ℕ, _/_}
 use lib.Dec.{eqb}
 use Rattle.bits.specs.Bits.{digit}
-use Rattle.modes.specs.Table.{audioPlaces, lsdPlaces}
-use Rattle.modes.specs.Owners.{heldBy, bitsPerFrame}
+use Rattle.table.specs.Table.{audioPlaces, lsdPlaces}
+use Rattle.modes.specs.Owners.{counting}
 use Rattle.modes.specs.declared.Mode.{Mode}
-use Rattle.modes.specs.declared.Places.{Places}
-use Rattle.modes.specs.declared.Owner.{Owner}
+use Rattle.table.specs.declared.Places.{Places}
 use Rattle.modes.specs.declared.Owner.the-variants.{Voice, Lsd}
 use Rattle.codes.specs.Carried.{senderCarries, openingOf}
 use Rattle.codes.specs.Commands.{commandOf}
@@ -16,9 +15,9 @@ use Rattle.codes.specs.declared.Command.the-variants.{Neutral, SetAudio, SetLsd
 use Rattle.codes.specs.declared.Opening.{Opening}
 use Rattle.codes.specs.declared.Opening.the-variants.{Nothing, Item, Message}
 use Rattle.slots.specs.Slots.{dueNow, slotOf, dueOf}
-use Rattle.control.specs.State.{wordDue}
-use Rattle.control.specs.declared.Sender.{Sender}
-use Rattle.track.specs.declared.Reader.{Reader}
+use Rattle.sender.specs.State.{wordDue}
+use Rattle.sender.specs.declared.Sender.{Sender}
+use Rattle.reader.specs.declared.Reader.{Reader}
 use Rattle.asking.specs.declared.Library.{Library}
 use Rattle.asking.specs.declared.SenderTold.{SenderTold}
 use Rattle.asking.specs.declared.ReaderTold.{ReaderTold}
@@ -45,13 +44,9 @@ readerTold s =
     let due = slotOf (dueNow (dueOf (s .slot))) in
     record { mode = s .mode; block = s .block; due = due .kind; words = due .words }
 
--- the bits of a stream that count in a block of two frames
-abbrev pub bitsCounted : Owner → Mode → ℕ
-bitsCounted o m = bitsPerFrame (heldBy m o) * 2
-
 -- voice 140 octets, of which 20w count; data 156 octets, of which twice the bits per frame count
 abbrev pub countsOf : Mode → Counts
-countsOf m = record { voice = bitsCounted Voice m / 8; lsd = bitsCounted Lsd m }
+countsOf m = record { voice = counting Voice m / 8; lsd = counting Lsd m }
 
 -- what a code is: neutral, a command of audio or of data, or what it opens
 abbrev pub codeKind : Command → Opening → ℕ

@@ -3,17 +3,17 @@
 ghost use mathlib.Core.Path.{_≡_};
 ghost use Rattle.bits.specs.Bits.{digit};
 ghost use Rattle.codes.specs.declared.Command.the-variants.{NoEffect};
-ghost use Rattle.control.specs.State.{wordDue};
+ghost use Rattle.sender.specs.State.{wordDue};
 ghost use Rattle.asking.specs.Asked.{library, fitsVersion, senderTold, readerTold, countsOf, codeKind, codePlaces, codeTold};
 use codes::Command;
 use codes::Opening;
-use control::Sender;
-use modes::BlockNumber;
 use modes::Mode;
 use modes::Owner;
-use modes::Places;
+use numbers::BlockNumber;
+use reader::Reader;
+use sender::Sender;
 use slots::Due;
-use track::Reader;
+use table::Places;
 
 // Which library this is: its version as a number, and how many octets each state has.
 #[repr(C)]
@@ -130,8 +130,8 @@ pub fn count_of(mode: Mode) -> Counts
     let voice = modes::bits_per_frame(mode, Owner::Voice);
     let lsd = modes::bits_per_frame(mode, Owner::Lsd);
     Counts {
-        voice: voice * 2 / 8,
-        lsd: lsd * 2,
+        voice: 2 * voice / 8,
+        lsd: 2 * lsd,
     }
 }
 
@@ -161,10 +161,10 @@ fn places_of(command: Command) -> Places
     ensures { λ r. ⌜ r ≡ codePlaces command ⌝ }
 {
     match command {
-        Command::Neutral => modes::audio_places(0),
-        Command::SetAudio(v) => modes::audio_places(v),
-        Command::SetLsd(v) => modes::lsd_places(v),
-        Command::NoEffect => modes::audio_places(0),
+        Command::Neutral => table::audio_places(0),
+        Command::SetAudio(v) => table::audio_places(v),
+        Command::SetLsd(v) => table::lsd_places(v),
+        Command::NoEffect => table::audio_places(0),
     }
 }
 

@@ -7,3 +7,4 @@ pub mod RunLaws
 pub mod Settled
 pub mod ShiftLaws
 pub mod Table
+pub mod NextLaws

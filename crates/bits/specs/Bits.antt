@@ -56,6 +56,11 @@ xors [] ys = []
 xors (x ∷ xs) [] = []
 xors (x ∷ xs) (y ∷ ys) = xor x y ∷ xors xs ys
 
+-- the next n bits of a stream, 1 where it has run out
+unfoldable pub nexts : ℕ → List Bool → List Bool
+nexts zero l = []
+nexts (suc n) l = getD l 0 true ∷ nexts n (drop 1 l)
+
 -- n octets packed from bits, most significant bit first, with zeros where the bits have run out
 unfoldable pub octets : ℕ → List Bool → List ℕ
 octets zero bs = []

@@ -1,3 +1,2 @@
 pub mod SendLaws
 pub mod ReadLaws
-pub mod PresetLaws

@@ -8,9 +8,9 @@ use native.Mathlib.Nat.{suc-ne-zero}
 use borrow.Author.Tests.{ne-eqb}
 use Rattle.bits.proofs.Settled.{settled}
 use Rattle.buffers.specs.Buffers.{Buffers}
-use Rattle.reader.specs.Step.{Told, buffersOf}
-use Rattle.track.specs.declared.Reader.{Reader}
-use Rattle.reader.specs.declared.Outcome.{Outcome}
+use Rattle.reading.specs.Step.{Told, buffersOf}
+use Rattle.reader.specs.declared.Reader.{Reader}
+use Rattle.reading.specs.declared.Outcome.{Outcome}
 use Rattle.recording.specs.declared.Stepped.{Stepped}
 use Rattle.recording.proofs.StepLaws.{Left}
 use Rattle.answers.specs.Answers.{readAnswerOf, stepAnswerOf}
@@ -19,7 +19,7 @@ use Rattle.calls.specs.Reading.{readTaken, ReadTold}
 use Rattle.calls.specs.Walking.{markAfter, stepTaken, stepBuffers, StepTold}
 use Rattle.answers.specs.declared.ReadAnswer.{ReadAnswer}
 use Rattle.answers.specs.declared.StepAnswer.{StepAnswer}
-use Rattle.saving.specs.declared.WalkState.{WalkState}
+use Rattle.keeping.specs.declared.WalkState.{WalkState}
 
 module _ (s : Reader) (line : List ℕ) (b : Buffers) where
   -- any two outcomes that the contract of `delampuk_read` allows are equal

@@ -5,10 +5,10 @@ use mathlib.Core.List.{List}
 use Prim.Native.Nat.{ℕ}
 use Rattle.bits.proofs.Settled.{settled}
 use Rattle.buffers.specs.Buffers.{Buffers}
-use Rattle.sender.specs.Step.{outcomeOf, lineOf, Told}
-use Rattle.control.specs.declared.Sender.{Sender}
+use Rattle.sending.specs.Step.{outcomeOf, lineOf, Told}
+use Rattle.sender.specs.declared.Sender.{Sender}
 use Rattle.control.specs.declared.Call.{Call}
-use Rattle.sender.specs.declared.Outcome.{Outcome}
+use Rattle.sending.specs.declared.Outcome.{Outcome}
 use Rattle.answers.specs.Answers.{sendAnswerOf}
 use Rattle.calls.specs.Sending.{on, callOf, sent, SendTold}
 use Rattle.answers.specs.declared.SendAnswer.{SendAnswer}

@@ -3,8 +3,8 @@ use mathlib.Core.Path.{_≡_}
 use mathlib.Core.List.{List}
 use Prim.Native.Nat.{ℕ}
 use Rattle.buffers.specs.Buffers.{Buffers}
-use Rattle.reader.specs.Step.{outcomeOf, buffersOf}
-use Rattle.track.specs.declared.Reader.{Reader}
+use Rattle.reading.specs.Step.{outcomeOf, buffersOf}
+use Rattle.reader.specs.declared.Reader.{Reader}
 use Rattle.answers.specs.Answers.{readAnswerOf}
 use Rattle.answers.specs.declared.ReadAnswer.{ReadAnswer}
 use Rattle.calls.specs.declared.ReadStepped.{ReadStepped}

@@ -5,8 +5,8 @@ use mathlib.Core.List.{List}
 use Prim.Native.Nat.{ℕ}
 use lib.Dec.{eqb}
 use Rattle.buffers.specs.Buffers.{Buffers}
-use Rattle.sender.specs.Step.{outcomeOf, lineOf}
-use Rattle.control.specs.declared.Sender.{Sender}
+use Rattle.sending.specs.Step.{outcomeOf, lineOf}
+use Rattle.sender.specs.declared.Sender.{Sender}
 use Rattle.control.specs.declared.Call.{Call}
 use Rattle.answers.specs.Answers.{sendAnswerOf}
 use Rattle.answers.specs.declared.SendAnswer.{SendAnswer}

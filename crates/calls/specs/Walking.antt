@@ -6,12 +6,12 @@ use Prim.Native.Nat.{ℕ}
 use lib.Dec.{eqb}
 use Rattle.buffers.specs.Buffers.{Buffers}
 use Rattle.modes.specs.Modes.{off}
-use Rattle.track.specs.State.{freshIn}
+use Rattle.reader.specs.State.{freshIn}
 use Rattle.recording.specs.Walk.{stepAt, buffersAt}
 use Rattle.answers.specs.Answers.{reservedOctets, stepAnswerOf}
 use Rattle.answers.specs.declared.StepAnswer.{StepAnswer}
 use Rattle.calls.specs.Sending.{on}
-use Rattle.saving.specs.declared.WalkState.{WalkState}
+use Rattle.keeping.specs.declared.WalkState.{WalkState}
 use Rattle.calls.specs.declared.WalkStepped.{WalkStepped}
 
 -- a walk that begins at a place, with a fresh reader

@@ -2,21 +2,18 @@
 // over a lent state. No call asks anything of its numbers and lengths: each of them is answered.
 ghost use mathlib.Core.Path.{_≡_};
 ghost use Rattle.buffers.specs.Buffers.{each};
-ghost use Rattle.sender.specs.Step.{lineOf};
-ghost use Rattle.reader.specs.Step.{buffersOf};
+ghost use Rattle.sending.specs.Step.{lineOf};
+ghost use Rattle.reading.specs.Step.{buffersOf};
 ghost use Rattle.calls.specs.Sending.{on, callOf, sent};
 ghost use Rattle.calls.specs.Reading.{readTaken};
 ghost use Rattle.calls.specs.Walking.{markAfter, walkFrom, stepTaken, stepBuffers};
-ghost use Rattle.calls.specs.Presets.{presetTaken, presetGiven};
-use answers::PresetAnswer;
-use answers::PresetBits;
 use answers::ReadAnswer;
 use answers::SendAnswer;
 use answers::StepAnswer;
 use control::Call;
-use control::Sender;
-use saving::WalkState;
-use track::Reader;
+use keeping::WalkState;
+use reader::Reader;
+use sender::Sender;
 
 pub struct SendStepped {
     pub state: Sender,
@@ -31,11 +28,6 @@ pub struct ReadStepped {
 pub struct WalkStepped {
     pub state: WalkState,
     pub answer: StepAnswer,
-}
-
-pub struct PresetStepped {
-    pub state: Sender,
-    pub answer: PresetAnswer,
 }
 
 // A switch of C. It is an octet, for a bool that holds neither 0 nor 1 is undefined in C, and here every octet is answered (DECISIONS F30).
@@ -67,7 +59,7 @@ pub fn send_step(
         e: is_on(e),
         t: is_on(t),
     };
-    let outcome = sender::send(state, call, voice, lsd, line);
+    let outcome = sending::send(state, call, voice, lsd, line);
     let next = outcome.state;
     let answer = outcome.answer;
     let told = answers::send_answer(answer);
@@ -82,7 +74,7 @@ pub fn read_step(state: Reader, line: &[u8], voice: &mut [u8], lsd: &mut [u8]) -
     ensures { λ r. ⌜ (r ≡ readTaken state (now (line .entry)) (each (now (voice .entry)) (now (lsd .entry))))
         × (each (now (voice .exit)) (now (lsd .exit)) ≡ buffersOf state (now (line .entry)) (each (now (voice .entry)) (now (lsd .entry)))) ⌝ }
 {
-    let outcome = reader::read(state, line, voice, lsd);
+    let outcome = reading::read(state, line, voice, lsd);
     let next = outcome.state;
     let answer = outcome.answer;
     let told = answers::read_answer(answer);
@@ -96,7 +88,7 @@ pub fn read_step(state: Reader, line: &[u8], voice: &mut [u8], lsd: &mut [u8]) -
 pub fn walk_from(place: usize) -> WalkState
     ensures { λ r. ⌜ r ≡ walkFrom place ⌝ }
 {
-    let reader = track::fresh();
+    let reader = reader::fresh();
     WalkState {
         place: place,
         reader: reader,
@@ -147,31 +139,4 @@ pub fn walk_step(
         state: after,
         answer: told,
     }
-}
-
-// A preset's state to start from and the data code to offer, or the state that was given and a refusal.
-pub fn preset_step(state: Sender, bits: u16) -> PresetStepped
-    ensures { λ r. ⌜ r ≡ presetTaken state bits ⌝ }
-{
-    let read = presets::read_preset(bits);
-    let fresh = read.state;
-    let told = answers::preset_answer(read);
-    if told.number == 0 {
-        return PresetStepped {
-            state: fresh,
-            answer: told,
-        };
-    }
-    PresetStepped {
-        state: state,
-        answer: told,
-    }
-}
-
-// A state's chosen audio and data in force, as a preset.
-pub fn preset_of(state: Sender) -> PresetBits
-    ensures { λ r. ⌜ r ≡ presetGiven state ⌝ }
-{
-    let written = presets::write_preset(state);
-    answers::preset_bits(written)
 }

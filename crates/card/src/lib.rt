@@ -4,21 +4,20 @@ ghost use mathlib.Core.Path.{_≡_};
 ghost use Rattle.buffers.specs.Buffers.{each};
 ghost use Rattle.modes.specs.Modes.{audioOff, off};
 ghost use Rattle.search.specs.Finding.{searchOf};
-ghost use Rattle.sender.specs.Step.{lineOf};
-ghost use Rattle.control.specs.State.{freshWith};
-ghost use Rattle.track.specs.State.{freshIn};
-ghost use Rattle.reader.specs.Step.{buffersOf};
+ghost use Rattle.sending.specs.Step.{lineOf};
+ghost use Rattle.sender.specs.State.{freshWith};
+ghost use Rattle.reader.specs.State.{freshIn};
+ghost use Rattle.reading.specs.Step.{buffersOf};
 ghost use Rattle.text.specs.Over.{Written};
 ghost use Rattle.scribe.specs.Listing.{listingOf};
 ghost use Rattle.answers.specs.Answers.{searchAnswerOf};
 ghost use Rattle.calls.specs.Sending.{callOf, sent};
 ghost use Rattle.calls.specs.Reading.{readTaken};
 ghost use Rattle.calls.specs.Walking.{walkFrom, stepTaken, stepBuffers};
-ghost use Rattle.calls.specs.Presets.{presetTaken, presetGiven};
-ghost use Rattle.saving.specs.Saved.{senderSaved, senderKept, senderLoaded, readerSaved, readerKept, readerLoaded, walkSaved, walkKept, walkLoaded};
+ghost use Rattle.presetting.specs.Presetting.{presetTaken, presetGiven};
+ghost use Rattle.saving.specs.Saved.{senderSaved, senderKept, senderLoaded, readerSaved, readerKept, readerLoaded};
+ghost use Rattle.keeping.specs.SavedWalk.{walkSaved, walkKept, walkLoaded};
 ghost use Rattle.asking.specs.Asked.{library, fitsVersion, senderTold, readerTold, countsOf, codeTold};
-use answers::PresetAnswer;
-use answers::PresetBits;
 use answers::ReadAnswer;
 use answers::SearchAnswer;
 use answers::SendAnswer;
@@ -28,10 +27,12 @@ use asking::Counts;
 use asking::Library;
 use asking::ReaderTold;
 use asking::SenderTold;
-use control::Sender;
+use keeping::WalkState;
 use modes::Mode;
-use saving::WalkState;
-use track::Reader;
+use presetting::PresetAnswer;
+use presetting::PresetBits;
+use reader::Reader;
+use sender::Sender;
 
 // Which library this is.
 #[no_mangle]
@@ -56,7 +57,7 @@ pub extern "C" fn delampuk_fits(version: u32) -> u8
 pub extern "C" fn delampuk_start_sender(state: &mut Sender)
     ensures { λ _. ⌜ now (state .exit) ≡ freshWith audioOff ⌝ }
 {
-    *state = control::fresh();
+    *state = sender::fresh();
 }
 
 // One sending call: the state is advanced, or untouched after a refusal.
@@ -113,7 +114,7 @@ pub extern "C" fn delampuk_load_sender(state: &mut Sender, saved: &[u8]) -> u8
 pub extern "C" fn delampuk_read_preset(state: &mut Sender, bits: u16) -> PresetAnswer
     ensures { λ r. ⌜ (r ≡ presetTaken (now (state .entry)) bits .answer) × (now (state .exit) ≡ presetTaken (now (state .entry)) bits .state) ⌝ }
 {
-    let stepped = calls::preset_step(*state, bits);
+    let stepped = presetting::preset_step(*state, bits);
     *state = stepped.state;
     stepped.answer
 }
@@ -123,7 +124,7 @@ pub extern "C" fn delampuk_read_preset(state: &mut Sender, bits: u16) -> PresetA
 pub extern "C" fn delampuk_write_preset(state: &Sender) -> PresetBits
     ensures { λ r. ⌜ r ≡ presetGiven (now (state .entry)) ⌝ }
 {
-    calls::preset_of(*state)
+    presetting::preset_of(*state)
 }
 
 // ---- reading
@@ -133,7 +134,7 @@ pub extern "C" fn delampuk_write_preset(state: &Sender) -> PresetBits
 pub extern "C" fn delampuk_start_reader(state: &mut Reader)
     ensures { λ _. ⌜ now (state .exit) ≡ freshIn off ⌝ }
 {
-    *state = track::fresh();
+    *state = reader::fresh();
 }
 
 // One block read: the state is advanced, or untouched after a refusal.
@@ -221,7 +222,7 @@ pub extern "C" fn delampuk_save_walk(state: &WalkState, saved: &mut [u8]) -> u8
     ensures { λ r. ⌜ (r ≡ walkSaved (now (state .entry)) (now (saved .entry)))
         × (now (saved .exit) ≡ walkKept (now (state .entry)) (now (saved .entry))) ⌝ }
 {
-    saving::save_walk(*state, saved)
+    keeping::save_walk(*state, saved)
 }
 
 #[no_mangle]
@@ -229,7 +230,7 @@ pub extern "C" fn delampuk_load_walk(state: &mut WalkState, saved: &[u8]) -> u8
     ensures { λ r. ⌜ (r ≡ walkLoaded (now (state .entry)) (now (saved .entry)) .answer)
         × (now (state .exit) ≡ walkLoaded (now (state .entry)) (now (saved .entry)) .state) ⌝ }
 {
-    let stepped = saving::load_walk(*state, saved);
+    let stepped = keeping::load_walk(*state, saved);
     *state = stepped.state;
     stepped.answer
 }

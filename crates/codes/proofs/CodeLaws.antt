@@ -6,7 +6,7 @@ use native.Mathlib.Omega.{arith}
 use lib.Dec.{eqb}
 use borrow.Author.Tests.{eqb-true, eqb-false, ne-eqb}
 use Rattle.bits.proofs.BoolLaws.{and-left, and-right}
-use Rattle.modes.specs.Table.{listedAudio, listedLsd}
+use Rattle.table.specs.Table.{listedAudio, listedLsd}
 use Rattle.codes.specs.Codes.{attribute, value, audioAttribute, lsdAttribute, neutral}
 use Rattle.codes.specs.Commands.{commandOf}
 use Rattle.codes.specs.declared.Command.the-variants.{Neutral, SetAudio, SetLsd, NoEffect}

@@ -2,8 +2,8 @@
 use mathlib.Core.Bool.{Bool, cond, _&&_, _||_}
 use Prim.Native.Nat.{ℕ}
 use lib.Dec.{leb, eqb}
-use Rattle.modes.specs.Table.{listedAudio, listedLsd}
-use Rattle.modes.specs.Owners.{within}
+use Rattle.table.specs.Table.{listedAudio, listedLsd}
+use Rattle.numbers.specs.Numbers.{within}
 use Rattle.codes.specs.Codes.{attribute, value, written, audioAttribute, lsdAttribute}
 use Rattle.codes.specs.declared.Opening.{Opening}
 use Rattle.codes.specs.declared.Opening.the-variants.{Nothing, Item, Message}

@@ -2,7 +2,7 @@
 use mathlib.Core.Bool.{cond, _&&_}
 use Prim.Native.Nat.{ℕ}
 use lib.Dec.{eqb}
-use Rattle.modes.specs.Table.{listedAudio, listedLsd}
+use Rattle.table.specs.Table.{listedAudio, listedLsd}
 use Rattle.modes.specs.Modes.{off, withAudio, withLsd, cleared}
 use Rattle.modes.specs.declared.Mode.{Mode}
 use Rattle.modes.specs.declared.Owner.the-variants.{Voice, Lsd}

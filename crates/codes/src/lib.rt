@@ -3,7 +3,7 @@
 ghost use mathlib.Core.Path.{_≡_};
 ghost use mathlib.Core.Bool.{_&&_};
 ghost use lib.Dec.{eqb};
-ghost use Rattle.modes.specs.Table.{listedAudio, listedLsd};
+ghost use Rattle.table.specs.Table.{listedAudio, listedLsd};
 ghost use Rattle.codes.specs.Codes.{attribute, value, audioAttribute, lsdAttribute};
 ghost use Rattle.codes.specs.Carried.{carried, senderCarries, readerCarries, openingOf};
 ghost use Rattle.codes.specs.Commands.{commandOf, offered, followed};
@@ -33,7 +33,7 @@ fn is_audio(code: u8) -> bool
     if code / 32 != 0 {
         return false;
     }
-    let p = modes::audio_places(code % 32);
+    let p = table::audio_places(code % 32);
     p.listed
 }
 
@@ -43,7 +43,7 @@ fn is_lsd(code: u8) -> bool
     if code / 32 != 3 {
         return false;
     }
-    let p = modes::lsd_places(code % 32);
+    let p = table::lsd_places(code % 32);
     p.listed
 }
 

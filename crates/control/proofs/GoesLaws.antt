@@ -10,11 +10,11 @@ use Rattle.buffers.specs.Buffers.{Each}
 use Rattle.buffers.specs.Lengths.{lineOctets, streamOctets, fitting}
 use Rattle.buffers.proofs.LengthLaws.{streams-fit, fits}
 use Rattle.codes.specs.Carried.{senderCarries}
-use Rattle.control.specs.State.{stateInRange}
+use Rattle.sender.specs.State.{stateInRange}
 use Rattle.control.specs.Rules.{ruleOf}
 use Rattle.control.specs.Refusals.{rows, rulingOf, goesPlain, clashes}
 use Rattle.control.specs.Decisions.{decisionBy, decisionOf}
-use Rattle.control.specs.declared.Sender.{Sender}
+use Rattle.sender.specs.declared.Sender.{Sender}
 use Rattle.control.specs.declared.Call.{Call}
 
 pub record Goes (s : Sender) (c : Call) (l : ℕ) (n : Each ℕ) : Type 0 where

@@ -1,57 +1,32 @@
 -- What is decided of a state in range leaves one in range.
 use mathlib.Core.Path.{_≡_, refl, ap, _∙_}
 use mathlib.Core.Bool.{true, false, _&&_, _||_, or-true}
-use Prim.Native.Nat.{ℕ, _<_}
+use Prim.Native.Nat.{ℕ}
 use lib.Dec.{eqb, leb}
 use borrow.Author.Tests.{eq-eqb}
-use Rattle.bits.proofs.BoolLaws.{and-left, and-right, or-left-false, or-right-false}
+use Rattle.bits.proofs.BoolLaws.{or-left-false, or-right-false}
 use Rattle.buffers.specs.Buffers.{Each}
-use Rattle.modes.specs.Owners.{within, overlaps}
-use Rattle.modes.specs.Modes.{audioOff, withAudio, withLsd, inRange}
-use Rattle.modes.proofs.ModeLaws.{following-low, Ranged, ranged, in-range, audio-small, lsd-small, off-ranged}
+use Rattle.numbers.proofs.NumberLaws.{following-low}
+use Rattle.modes.specs.Owners.{overlaps}
+use Rattle.modes.specs.Modes.{audioOff, withAudio, withLsd}
+use Rattle.modes.proofs.ModeLaws.{Ranged, off-ranged}
 use Rattle.codes.specs.Codes.{value}
 use Rattle.codes.specs.Commands.{commandOf, offered}
 use Rattle.codes.specs.declared.Command.{Command}
 use Rattle.codes.specs.declared.Command.the-variants.{Neutral, SetAudio, SetLsd, NoEffect}
 use Rattle.codes.proofs.CodeLaws.{audio-code, lsd-code}
-use Rattle.control.specs.State.{chosenMode, follows, stateInRange}
+use Rattle.sender.specs.State.{chosenMode, stateInRange}
 use Rattle.control.specs.Rules.{ruleOf}
 use Rattle.control.specs.Plans.{planBy}
 use Rattle.control.specs.Refusals.{isAudio, isLsd, clashes, goesPlain, rulingOf}
 use Rattle.control.specs.Decisions.{nextBy, withRemainder, decisionOf}
-use Rattle.control.specs.declared.Sender.{Sender}
+use Rattle.sender.specs.declared.Sender.{Sender}
 use Rattle.control.specs.declared.Call.{Call}
 use Rattle.control.specs.declared.Rule.{Rule}
 use Rattle.control.specs.declared.Rule.the-variants.{AsItem, MuteOff, Release, Offered}
 use Rattle.refusals.specs.declared.Ruling.the-variants.{Accept}
 use Rattle.control.proofs.GoesLaws.{goes}
-
--- ---- the parts of a state in range
-pub record Kept (s : Sender) : Type 0 where
-  pub ranges : Ranged (chosenMode s)
-  pub force : follows s ≡ true
-  pub block : within 1 8 (s .block .0) ≡ true
-  pub rest : leb (s .remainder) 15 ≡ true
-
-pub kept : (s : Sender) → stateInRange s ≡ true → Kept s
-unfolding stateInRange
-kept s t =
-    let a = inRange (chosenMode s) in
-    let b = follows s in
-    let c = within 1 8 (s .block .0) in
-    let d = leb (s .remainder) 15 in
-    let t3 = and-left (a && b && c) d t in
-    let t2 = and-left (a && b) c t3 in
-    record {
-      ranges = ranged (chosenMode s) (and-left a b t2);
-      force = and-right a b t2;
-      block = and-right (a && b) c t3;
-      rest = and-right (a && b && c) d t;
-    }
-
-pub keeps : (s : Sender) → Kept s → stateInRange s ≡ true
-unfolding stateInRange
-keeps s k = rw (in-range (chosenMode s) (k .ranges), k .force, k .block, k .rest)
+use Rattle.sender.proofs.StateLaws.{Kept, kept, keeps}
 
 -- ---- what an offered command leaves
 module _ (s : Sender) (code rem : ℕ) (k : Kept s) (low : leb rem 15 ≡ true) (apart : clashes s code ≡ false) where
@@ -95,10 +70,3 @@ pub decided-in-range : (s : Sender) (c : Call) (line : ℕ) (n : Each ℕ) (rem 
 unfolding decisionOf
 decided-in-range s c line n rem r low e =
     rw e (keeps _ (next-kept (ruleOf s (c .mute)) s (c .code) rem (kept s r) low (goes s c line n e .apart)))
-
--- ---- what a state in range holds is small
-pub chosen-small : (s : Sender) → stateInRange s ≡ true → s .chosen < 32
-chosen-small s r = audio-small (s .chosen) (kept s r .ranges .spoken)
-
-pub lsd-in-force-small : (s : Sender) → stateInRange s ≡ true → s .mode .lsd < 15
-lsd-in-force-small s r = lsd-small (s .mode .lsd) (kept s r .ranges .given)

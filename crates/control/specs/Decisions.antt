@@ -3,11 +3,11 @@ use Prim.Native.Nat.{ℕ}
 use Rattle.refusals.specs.declared.Ruling.{Ruling}
 use Rattle.refusals.specs.declared.Ruling.the-variants.{Refuse, Accept}
 use Rattle.buffers.specs.Buffers.{Each}
-use Rattle.modes.specs.Numbers.{following}
+use Rattle.numbers.specs.Numbers.{following}
 use Rattle.control.specs.Rules.{ruleOf}
 use Rattle.control.specs.Plans.{planBy}
 use Rattle.control.specs.Refusals.{rulingOf}
-use Rattle.control.specs.declared.Sender.{Sender}
+use Rattle.sender.specs.declared.Sender.{Sender}
 use Rattle.control.specs.declared.Call.{Call}
 use Rattle.control.specs.declared.Plan.{Plan}
 use Rattle.control.specs.declared.Answer.the-variants.{Refused}

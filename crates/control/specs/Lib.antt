@@ -1,4 +1,3 @@
-pub mod State
 pub mod Rules
 pub mod Plans
 pub mod Refusals

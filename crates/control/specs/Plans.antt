@@ -7,8 +7,8 @@ use Rattle.codes.specs.Commands.{commandOf, offered}
 use Rattle.bas.specs.declared.Word.the-variants.{Code}
 use Rattle.slots.specs.Slots.{dueAfter, slotOf}
 use Rattle.slots.specs.declared.Due.the-variants.{Plain}
-use Rattle.control.specs.State.{chosenMode}
-use Rattle.control.specs.declared.Sender.{Sender}
+use Rattle.sender.specs.State.{chosenMode}
+use Rattle.sender.specs.declared.Sender.{Sender}
 use Rattle.control.specs.declared.Rule.{Rule}
 use Rattle.control.specs.declared.Rule.the-variants.{AsItem, MuteOff, Release, Offered}
 use Rattle.control.specs.declared.Answer.{Answer}

@@ -13,9 +13,9 @@ use Rattle.modes.specs.Owners.{overlaps}
 use Rattle.modes.specs.Modes.{withAudio, withLsd}
 use Rattle.codes.specs.Codes.{attribute, value, audioAttribute, lsdAttribute}
 use Rattle.codes.specs.Carried.{senderCarries}
-use Rattle.control.specs.State.{chosenMode, stateInRange}
+use Rattle.sender.specs.State.{chosenMode, stateInRange}
 use Rattle.control.specs.Rules.{ruleOf}
-use Rattle.control.specs.declared.Sender.{Sender}
+use Rattle.sender.specs.declared.Sender.{Sender}
 use Rattle.control.specs.declared.Call.{Call}
 use Rattle.control.specs.declared.Rule.{Rule}
 use Rattle.control.specs.declared.Rule.the-variants.{AsItem, MuteOff, Release, Offered}

@@ -1,8 +1,8 @@
 -- Document 01, 'Sending a block': which word goes, and by which rule.
 use mathlib.Core.Bool.{Bool, not, cond, _&&_}
 use Rattle.slots.specs.Slots.{isItem}
-use Rattle.control.specs.State.{wordDue, sounding, choosing}
-use Rattle.control.specs.declared.Sender.{Sender}
+use Rattle.sender.specs.State.{wordDue, sounding, choosing}
+use Rattle.sender.specs.declared.Sender.{Sender}
 use Rattle.control.specs.declared.Rule.{Rule}
 use Rattle.control.specs.declared.Rule.the-variants.{AsItem, MuteOff, Release, Offered}
 

@@ -1,30 +1,17 @@
 // What a sender decides of a call, before any octet is written: whether it is refused, the word that goes, the answer, and the state that is
 // left (document 01, 'Sending a block' and 'Refusal numbers').
 ghost use mathlib.Core.Path.{_≡_};
-ghost use Rattle.modes.specs.Modes.{audioOff};
 ghost use Rattle.buffers.specs.Buffers.{each};
-ghost use Rattle.control.specs.State.{chosenMode, stateInRange, freshWith};
 ghost use Rattle.control.specs.Rules.{ruleOf};
 ghost use Rattle.control.specs.Plans.{planBy};
 ghost use Rattle.control.specs.Refusals.{clashes, goesPlain, goesAsItem, rulingOf};
 ghost use Rattle.control.specs.Decisions.{nextBy, decisionOf};
 use bas::Word;
-use modes::BlockNumber;
 use modes::Mode;
 use refusals::Refusal;
 use refusals::Ruling;
+use sender::Sender;
 use slots::Due;
-
-// What a sender keeps between blocks, laid out as in C for a card driver. The chosen audio stands apart from the audio in force; `due` is
-// 0, or an item is due (DECISIONS F46).
-#[repr(C)]
-pub struct Sender {
-    pub chosen: u8,
-    pub mode: Mode,
-    pub block: BlockNumber,
-    pub due: u8,
-    pub remainder: u8,
-}
 
 // What a call says beside its buffers.
 pub struct Call {
@@ -65,28 +52,6 @@ pub struct Decision {
     pub word: u8,
     pub answer: Answer,
     pub next: Sender,
-}
-
-// The mode that is chosen: that in force, with the chosen audio.
-fn chosen_mode(s: Sender) -> Mode
-    ensures { λ r. ⌜ r ≡ chosenMode s ⌝ }
-{
-    let mode = s.mode;
-    modes::with_audio(mode, s.chosen)
-}
-
-// Whether a state is in range.
-pub fn in_range(s: Sender) -> bool
-    ensures { λ r. ⌜ r ≡ stateInRange s ⌝ }
-{
-    let chosen = s.chosen;
-    let audio = s.mode.audio;
-    let block = s.block.0;
-    let remainder = s.remainder;
-    modes::in_range(chosen_mode(s))
-        & ((audio == 31) | (audio == chosen))
-        & ((1 <= block) & (block <= 8))
-        & (remainder <= 15)
 }
 
 fn rule_of(s: Sender, mute: bool) -> Rule
@@ -138,7 +103,7 @@ fn clash(s: Sender, code: u8) -> bool
         return modes::overlap(modes::with_audio(mode, v));
     }
     if code / 32 == 3 {
-        return modes::overlap(modes::with_lsd(chosen_mode(s), v));
+        return modes::overlap(modes::with_lsd(sender::chosen_mode(s), v));
     }
     false
 }
@@ -152,7 +117,7 @@ fn ruling_of(s: Sender, c: Call, line: usize, voice: usize, lsd: usize) -> Rulin
     let rule = rule_of(s, mute);
     let plain = goes_plain(rule);
     let item = goes_as_item(rule);
-    let one = refusals::judge(Ruling::Accept, Refusal::BadState, !in_range(s));
+    let one = refusals::judge(Ruling::Accept, Refusal::BadState, !sender::in_range(s));
     let two = buffers::judge_line(one, line);
     let four = buffers::judge_streams(two, voice, lsd);
     let five = refusals::judge(
@@ -175,7 +140,7 @@ fn offered_plan(s: Sender, code: u8) -> Plan
 {
     let mode = s.mode;
     let command = codes::command_of(code);
-    let offered = codes::offer(command, chosen_mode(s));
+    let offered = codes::offer(command, sender::chosen_mode(s));
     let next = codes::offer(command, mode);
     let slot = slots::slot_of(slots::due_after(Due::Plain, Word::Code(code)));
     Plan {
@@ -211,7 +176,7 @@ fn plan_by(rule: Rule, s: Sender, code: u8) -> Plan
             }
         }
         Rule::Release => {
-            let on = chosen_mode(s);
+            let on = sender::chosen_mode(s);
             Plan {
                 word: chosen,
                 answer: Answer::Held,
@@ -230,7 +195,7 @@ fn next_by(p: Plan, s: Sender) -> Sender
 {
     let old = s.block;
     let mode = p.mode;
-    let block = modes::next_block(old);
+    let block = numbers::next_block(old);
     Sender {
         chosen: p.chosen,
         mode: mode,
@@ -264,26 +229,4 @@ pub fn decide(s: Sender, c: Call, line: usize, voice: usize, lsd: usize) -> Deci
             }
         }
     }
-}
-
-// The state that a session starts in, but for the chosen audio.
-pub fn fresh_with(audio: u8) -> Sender
-    ensures { λ r. ⌜ r ≡ freshWith audio ⌝ }
-{
-    let mode = modes::off();
-    let block = BlockNumber(1);
-    Sender {
-        chosen: audio,
-        mode: mode,
-        block: block,
-        due: 0,
-        remainder: 0,
-    }
-}
-
-// The state that a session starts in.
-pub fn fresh() -> Sender
-    ensures { λ r. ⌜ r ≡ freshWith audioOff ⌝ }
-{
-    fresh_with(31)
 }

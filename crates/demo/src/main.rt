@@ -6,13 +6,13 @@ ghost use lib.ListN.{length};
 ghost use Rattle.buffers.specs.Lengths.{lineOctets};
 use control::Answer;
 use control::Call;
-use control::Sender;
 use libc::STDOUT_FILENO;
 use modes::Mode;
 use modes::Owner;
-use sender::Outcome;
-use slots::Reading;
-use track::Reader;
+use reader::Reader;
+use sender::Sender;
+use sending::Outcome;
+use words::Reading;
 
 // The code of each call. In the first six nothing happens, so that the far end finds its place. Then audio of 6 bits, page cues beside it, an
 // escape, the item after it, two calls more, an audio command, and two calls more.
@@ -187,7 +187,7 @@ fn tell(block: usize, found: Sender, call: Call, answer: Answer, line: &[u8]) {
 fn framed(state: Sender, call: Call, line: &mut [u8]) -> Outcome {
     let voice = [MICROPHONE; buffers::VOICE];
     let lsd = [51u8; buffers::LSD];
-    sender::send(state, call, &voice, &lsd, line)
+    sending::send(state, call, &voice, &lsd, line)
 }
 
 // How many blocks there are after a call: a refused one writes none.
@@ -269,9 +269,9 @@ fn nothing(reader: Reader) -> Heard {
     }
 }
 
-fn is_off(answer: reader::Answer) -> bool {
+fn is_off(answer: reading::Answer) -> bool {
     match answer {
-        reader::Answer::Block(report) => {
+        reading::Answer::Block(report) => {
             let reading = report.reading;
             match reading {
                 Reading::Mended(code) => code == AUDIO_OFF,
@@ -283,12 +283,12 @@ fn is_off(answer: reader::Answer) -> bool {
                 Reading::NotRead => false,
             }
         }
-        reader::Answer::Refused(_) => false,
+        reading::Answer::Refused(_) => false,
     }
 }
 
 // The first block in which "audio off" came as a command is kept.
-fn after(heard: Heard, answer: reader::Answer, next: Reader, bits: u64, block: usize) -> Heard {
+fn after(heard: Heard, answer: reading::Answer, next: Reader, bits: u64, block: usize) -> Heard {
     let all = std::num::wrapping_add_u64(heard.bits, bits);
     if heard.off {
         return Heard {
@@ -312,7 +312,7 @@ fn hear(heard: Heard, block: usize, line: &[u8]) -> Heard {
     let mut lsd = [0u8; buffers::LSD];
     let given = heard.reader;
     let mode = given.mode;
-    let outcome = reader::read(given, line, &mut voice, &mut lsd);
+    let outcome = reading::read(given, line, &mut voice, &mut lsd);
     let answer = outcome.answer;
     let next = outcome.state;
     after(
@@ -361,7 +361,7 @@ fn tell_seen(blocks: usize, heard: Heard) {
 fn judged(recording: &[u8], from: usize, to: usize)
     requires { ⌜ (from ≤ to) × (to ≤ 15) × (lineOctets * to ≤ length (now recording)) ⌝ }
 {
-    let before = listened(recording, track::fresh(), 0, from);
+    let before = listened(recording, reader::fresh(), 0, from);
     let reader = before.reader;
     tell_seen(to - from, listened(recording, reader, from, to));
 }
@@ -369,7 +369,7 @@ fn judged(recording: &[u8], from: usize, to: usize)
 fn main() {
     // Room for the blocks of all calls.
     let mut recording = [0u8; 2400];
-    let fresh = control::fresh();
+    let fresh = sender::fresh();
     let begun = Lesson {
         state: fresh,
         blocks: 0,

@@ -7,14 +7,13 @@ use native.Mathlib.Nat.{add-zero, add-mul, one-mul, mul-one, lt-of-lt-of-le, mod
 use native.Mathlib.Omega.{arith}
 use lib.Pow.{pow-mono, pow-pos, high}
 use lib.ListN.{length, getD, drop, length-drop}
-use Rattle.bits.specs.Bits.{bitsOf, digit, number, numberAt}
+use Rattle.bits.specs.Bits.{bitsOf, digit, number, numberAt, nexts}
 use Rattle.bits.proofs.BitLaws.{length-bitsOf}
 use Rattle.bits.proofs.EightLaws.{numberAt-lt, number-parts, number-at}
 use Rattle.bits.proofs.PackLaws.{take-bitsOf}
 use Rattle.bits.proofs.RunLaws.{part, drop-bitsOf}
-use Rattle.places.specs.Streams.{nexts}
 use Rattle.eights.specs.Eight.{fieldOf}
-use Rattle.places.proofs.StreamLaws.{length-nexts, nexts-take, nexts-append}
+use Rattle.bits.proofs.NextLaws.{length-nexts, nexts-take, nexts-append}
 
 -- ---- octets of a buffer as one number: of eight, of which some may be past the end, the first n
 pub octets-first : (xs : List ℕ) (i n : ℕ) → n ≤ 8 → i + n ≤ length xs

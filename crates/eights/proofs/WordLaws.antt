@@ -8,8 +8,7 @@ use native.Mathlib.Omega.{arith}
 use lib.Arith.{digits-lt}
 use lib.Dec.{lit<}
 use lib.Pow.{pow-add, pow-mono}
-use Rattle.bits.specs.Bits.{number}
-use Rattle.places.specs.Streams.{nexts}
+use Rattle.bits.specs.Bits.{number, nexts}
 use Rattle.eights.specs.Eight.{eights, fieldOf, spreadBy, fieldsOf, raisedBy}
 use Rattle.eights.proofs.EightLaws.{field-nexts, field-lt, field-small}
 

@@ -6,8 +6,7 @@ use Prim.Native.Nat.{ℕ, zero, suc, _+_, _-_, _*_, _/_, _%_, _^_}
 use lib.Bits.{bitAnd}
 use lib.Dec.{leb}
 use lib.ListN.{getD, drop}
-use Rattle.bits.specs.Bits.{number, digit}
-use Rattle.places.specs.Streams.{nexts}
+use Rattle.bits.specs.Bits.{number, digit, nexts}
 
 -- field k of x's eight, the highest first and counted from 0, each of n bits
 unfoldable pub fieldOf : ℕ → ℕ → ℕ → ℕ

@@ -3,8 +3,8 @@
 use bas::Word;
 use libc::STDOUT_FILENO;
 use modes::Mode;
-use modes::OctetNumber;
 use modes::Owner;
+use numbers::OctetNumber;
 
 fn text(s: &[u8]) {
     io::write_all(STDOUT_FILENO, s);

@@ -10,7 +10,7 @@ use Rattle.bits.proofs.BitLaws.{lowBits-back, first-octet, second-octet}
 use Rattle.bits.proofs.Settled.{settled}
 use Rattle.bas.specs.Words.{wordBits, wordOf, lineOrder}
 use Rattle.bas.proofs.WordLaws.{length-wordBits, length-line}
-use Rattle.modes.specs.Numbers.{evenFrame, oddFrame}
+use Rattle.numbers.specs.Numbers.{evenFrame, oddFrame}
 use Rattle.modes.specs.declared.Mode.{Mode}
 use Rattle.modes.specs.declared.Owner.{Owner}
 use Rattle.modes.specs.declared.Owner.the-variants.{Service, Voice, Lsd, Nobody}

@@ -1,26 +1,25 @@
 -- The number of an octet of a frame: voice, nobody's ones, data and the service channel's bit, put together.
 use mathlib.Core.Path.{_≡_, refl, ap, ap₂, _∙_}
-use mathlib.Core.Bool.{Bool, true, false, cond}
+use mathlib.Core.Bool.{Bool, true}
 use mathlib.Core.List.{List, [], _∷_, _++_}
 use Prim.Native.Nat.{ℕ, zero, suc, _+_, _-_, _*_, _^_, _≤_, _<_, min}
 use native.Mathlib.Nat.{zero-add, add-zero, pow-suc, pow-succ', one-mul, mul-one, mul-assoc}
 use native.Mathlib.Numerals.{add-one}
 use native.Mathlib.Omega.{arith}
-use borrow.Author.Tests.{leb-true, le-leb, lt-leb}
-use lib.Dec.{leb}
 use lib.Pow.{pow-pos}
 use lib.ListN.{getD, drop, replicate}
 use lib.Seq.{drop-nil}
-use Rattle.bits.specs.Bits.{digit, number}
+use Rattle.bits.specs.Bits.{digit, number, nexts}
 use Rattle.bits.proofs.BitLaws.{number-append, number-bound}
 use Rattle.modes.specs.declared.Owner.{Owner}
 use Rattle.modes.specs.declared.Owner.the-variants.{Service, Voice, Lsd, Nobody}
-use Rattle.places.specs.Streams.{Streams, same, count, rest, fill, nexts}
+use Rattle.places.specs.Streams.{Streams, same, count, rest, fill}
 use Rattle.frame.specs.Block.{byOwner}
 use Rattle.places.specs.Layout.{columnsBy, channelBy, rowBy, rowsBy, sc, Apart}
 use Rattle.places.specs.declared.Layout.{Layout}
-use Rattle.places.proofs.StreamLaws.{fill-append, fill-all, rest-at, rest-rest, count-append, count-all, count-none, length-fill, length-nexts}
-use Rattle.places.proofs.LayoutLaws.{count-voice, count-lsd, count-service, length-row}
+use Rattle.places.proofs.StreamLaws.{fill-append, fill-all, rest-at, rest-rest, count-append, count-all, count-none, length-fill}
+use Rattle.bits.proofs.NextLaws.{length-nexts}
+use Rattle.places.proofs.LayoutLaws.{channel-cases, count-voice, count-lsd, count-service, length-row}
 
 -- n places of a stream that has no bits
 pub ones : (n : ℕ) → number (nexts n []) ≡ 2 ^ n - 1
@@ -89,19 +88,14 @@ before-lsd p o h = simp (count-append, count-lsd p o h, count-all, count-none Ls
 pub channel-next : (p : Layout) (o : ℕ) (service voice lsd : List Bool) → Apart p
     → getD (rest (rowsBy p o ++ columnsBy p) (byOwner service voice lsd) (channelBy p (o + 1))) 0 true
     ≡ getD (byOwner (drop o service) [] (drop (o * p .columns + sc p o + p .columns) lsd) (channelBy p (o + 1))) 0 true
-unfolding channelBy
-channel-next p o service voice lsd h = go (leb (o + 1) 16) (leb (p .first) (o + 1)) (leb (o + 1) (p .last)) refl
-  where
-    go : (a b c : Bool) → leb (o + 1) 16 ≡ a
-        → getD (rest (rowsBy p o ++ columnsBy p) (byOwner service voice lsd) (cond a Service (cond b (cond c Lsd Nobody) Nobody))) 0 true
-        ≡ getD (byOwner (drop o service) [] (drop (o * p .columns + sc p o + p .columns) lsd) (cond a Service (cond b (cond c Lsd Nobody) Nobody))) 0 true
-    go true b c e =
-        let l : o + 1 ≤ 16 = leb-true (o + 1) 16 e in
-        let k : min o 16 ≡ o = omega arith in
-        rw (rest-at, before-service p o, k)
-    go false true true e = rw (rest-at, before-lsd p o h)
-    go false true false e = rw (rest-at, drop-nil)
-    go false false c e = rw (rest-at, drop-nil)
+channel-next p o service voice lsd h =
+    channel-cases p (o + 1)
+    (λ (w : Owner). getD (rest (rowsBy p o ++ columnsBy p) (byOwner service voice lsd) w) 0 true
+    ≡ getD (byOwner (drop o service) [] (drop (o * p .columns + sc p o + p .columns) lsd) w) 0 true)
+    (λ l. let k : min o 16 ≡ o = omega arith in rw (rest-at, before-service p o, k))
+    (λ l f u. rw (rest-at, before-lsd p o h))
+    (λ l b. rw (rest-at, drop-nil))
+    (λ l a. rw (rest-at, drop-nil))
 
 -- ---- octet o + 1 in two parts: voice and nobody's ones, and the last bits, which are data's and the channel's
 join-tail : (x c low last : ℕ) → (x * 2 ^ c + low) * 2 + last ≡ x * 2 ^ (c + 1) + (low * 2 + last)
@@ -117,33 +111,20 @@ octet-parts p o service voice lsd h =
     octet-at p o (byOwner service voice lsd) refl h
     ∙ rw (channel-next p o service voice lsd h) (join-tail _ (p .columns) _ _)
 
--- which owner that is
-pub channel-service : (p : Layout) (o : ℕ) → o ≤ 16 → channelBy p o ≡ Service
-unfolding channelBy
-channel-service p o h = rw (le-leb o 16 h)
-
-pub channel-lsd : (p : Layout) (o : ℕ) → 16 < o → p .first ≤ o → o ≤ p .last → channelBy p o ≡ Lsd
-unfolding channelBy
-channel-lsd p o h k l = rw (lt-leb o 16 h, le-leb (p .first) o k, le-leb o (p .last) l)
-
 -- past the service bits these do not count; and where they are left out and data has no SC octet, the bit is 1
 pub channel-unserved : (p : Layout) (o : ℕ) (bs cs ds : List Bool) → 16 ≤ o
     → getD (byOwner cs [] ds (channelBy p (o + 1))) 0 true ≡ getD (byOwner bs [] ds (channelBy p (o + 1))) 0 true
-unfolding channelBy
-channel-unserved p o bs cs ds h = rw (lt-leb (o + 1) 16 (omega arith)) (go (leb (p .first) (o + 1)) (leb (o + 1) (p .last)))
-  where
-    go : (b c : Bool) → getD (byOwner cs [] ds (cond b (cond c Lsd Nobody) Nobody)) 0 true ≡ getD (byOwner bs [] ds (cond b (cond c Lsd Nobody) Nobody)) 0 true
-    go true true = refl
-    go true false = refl
-    go false c = refl
+channel-unserved p o bs cs ds h =
+    channel-cases p (o + 1) (λ (w : Owner). getD (byOwner cs [] ds w) 0 true ≡ getD (byOwner bs [] ds w) 0 true)
+    (λ l. absurd (omega arith))
+    (λ l f u. refl)
+    (λ l b. refl)
+    (λ l a. refl)
 
 pub channel-free : (p : Layout) (o : ℕ) (ds : List Bool) → sc p (o + 1) ≡ sc p o → getD (byOwner (drop o []) [] ds (channelBy p (o + 1))) 0 true ≡ true
-unfolding channelBy
-channel-free p o ds e = go (leb (o + 1) 16) (leb (p .first) (o + 1)) (leb (o + 1) (p .last)) refl refl
-  where
-    go : (a b c : Bool) → leb (p .first) (o + 1) ≡ b → leb (o + 1) (p .last) ≡ c
-        → getD (byOwner (drop o []) [] ds (cond a Service (cond b (cond c Lsd Nobody) Nobody))) 0 true ≡ true
-    go true b c eb ec = rw (drop-nil o)
-    go false true true eb ec = absurd (omega (arith, e, leb-true (p .first) (o + 1) eb, leb-true (o + 1) (p .last) ec))
-    go false true false eb ec = refl
-    go false false c eb ec = refl
+channel-free p o ds e =
+    channel-cases p (o + 1) (λ (w : Owner). getD (byOwner (drop o []) [] ds w) 0 true ≡ true)
+    (λ l. rw (drop-nil o))
+    (λ l f u. absurd (omega (arith, e)))
+    (λ l b. refl)
+    (λ l a. refl)

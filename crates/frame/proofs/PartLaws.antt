@@ -1,30 +1,31 @@
 -- The octets of a frame in two parts, voice with nobody's ones and data with the SC bit; eight octets of each part as one number.
 use mathlib.Core.Path.{_≡_, refl, ap, sym, _∙_}
 use mathlib.Core.Logic.{_⊎_, inl, inr}
-use mathlib.Core.Bool.{Bool, true, false, cond, _&&_}
+use mathlib.Core.Bool.{Bool, true, cond, _&&_, and-false}
 use mathlib.Core.List.{List, []}
 use Prim.Native.Nat.{ℕ, _+_, _-_, _*_, _^_, _≤_, _<_}
-use native.Mathlib.Nat.{add-mul, mul-add, mul-assoc, mul-one, zero-mul, zero-add, add-zero}
+use native.Mathlib.Nat.{add-mul, mul-add, mul-assoc, mul-one, zero-add, add-zero}
 use native.Mathlib.Omega.{arith}
-use borrow.Author.Tests.{leb-true, lt-leb}
+use borrow.Author.Tests.{le-leb, lt-leb}
 use lib.Dec.{leb}
 use lib.Pow.{pow-add, pow-pos}
 use lib.ListN.{length, getD, take, drop, length-drop}
 use lib.Seq.{take-all, drop-nil, drop-drop, length-take-le, getD-take, getD-drop, ext-getD}
-use Rattle.bits.specs.Bits.{number, digit}
+use Rattle.bits.specs.Bits.{number, digit, nexts}
 use Rattle.bits.proofs.BitLaws.{number-append}
 use Rattle.bits.proofs.PackLaws.{length-octets}
 use Rattle.bits.proofs.Table.{entry}
-use Rattle.modes.specs.declared.Owner.the-variants.{Lsd, Nobody}
-use Rattle.places.specs.Streams.{Streams, nexts, fill, rest}
+use Rattle.modes.specs.declared.Owner.{Owner}
+use Rattle.places.specs.Streams.{Streams, fill, rest}
 use Rattle.frame.specs.Block.{byOwner}
-use Rattle.places.specs.Layout.{channelBy, rowBy, rowsBy, sc, Apart}
+use Rattle.places.specs.Layout.{rowBy, rowsBy, sc, Apart}
 use Rattle.frame.specs.Frame.{frameBy}
 use Rattle.eights.specs.Eight.{eights, ownAt, endedBy, fieldOf, fieldsOf, raisedBy, octetIn, octetsIn, allOctets}
 use Rattle.frame.specs.Parts.{wordAt, headAt, tailAt}
 use Rattle.places.specs.declared.Layout.{Layout}
-use Rattle.places.proofs.StreamLaws.{length-nexts, nexts-append}
-use Rattle.frame.proofs.OctetLaws.{ones, octet-lt, octet-parts, channel-service, channel-unserved, channel-free, channel-lsd}
+use Rattle.bits.proofs.NextLaws.{length-nexts, nexts-append}
+use Rattle.places.proofs.LayoutLaws.{channel-cases, channel-service, channel-lsd}
+use Rattle.frame.proofs.OctetLaws.{ones, octet-lt, octet-parts, channel-unserved, channel-free}
 use Rattle.eights.proofs.EightLaws.{number-one}
 use Rattle.eights.proofs.RunLaws.{all-are}
 use Rattle.eights.proofs.WordLaws.{eights-plus, eights-each, eights-lt, octet-of, raised-none}
@@ -108,18 +109,23 @@ tail-owned p ds o h f l =
 
 -- data with no columns has the SC bit alone
 tail-bit : (p : Layout) (bits : List Bool) (o : ℕ) → p .columns ≡ 0 → 16 ≤ o → ownAt (p .first) (p .last) bits o ≡ tailAt p [] bits o
-unfolding ownAt tailAt nexts number channelBy
+unfolding ownAt tailAt nexts number
 tail-bit p bits o z h =
-    rw (z, lt-leb (o + 1) 16 (omega arith), zero-mul, zero-add) (go (leb (p .first) (o + 1)) (leb (o + 1) (p .last)) refl refl)
+    channel-cases p (o + 1) Ends
+    (λ l. absurd (omega arith))
+    (λ l f u.
+    let at : o * 0 + sc p o + 0 ≡ o + 1 - p .first = omega arith in
+    let none : o + 1 - p .first + 0 ≡ o + 1 - p .first = omega arith in
+    rw (z, le-leb (p .first) (o + 1) f, le-leb (o + 1) (p .last) u, at, getD-drop (o + 1 - p .first) bits 0 true, none) (sym (zero-add _)))
+    (λ l b. rw (z, lt-leb (p .first) (o + 1) b))
+    (λ l a. rw (z, lt-leb (o + 1) (p .last) a, and-false (leb (p .first) (o + 1))))
   where
-    go : (a b : Bool) → leb (p .first) (o + 1) ≡ a → leb (o + 1) (p .last) ≡ b
-        → digit (cond (a && b) (getD bits (o + 1 - p .first) true) true) ≡ digit (getD (byOwner (drop o []) [] (drop (o * 0 + sc p o + 0) bits) (cond a (cond b Lsd Nobody) Nobody)) 0 true)
-    go true true ea eb =
-        let at : o * 0 + sc p o + 0 ≡ o + 1 - p .first = omega (arith, leb-true (p .first) (o + 1) ea, leb-true (o + 1) (p .last) eb) in
-        let none : o + 1 - p .first + 0 ≡ o + 1 - p .first = omega arith in
-        rw (at, getD-drop (o + 1 - p .first) bits 0 true, none)
-    go true false ea eb = refl
-    go false b ea eb = refl
+    -- the octet ends in the next bit of this owner
+    Ends : Owner → Type 0
+    Ends w =
+        digit (cond (leb (p .first) (o + 1) && leb (o + 1) (p .last)) (getD bits (o + 1 - p .first) true) true)
+        ≡ number (nexts (p .columns) (drop (o * p .columns + sc p o) bits)) * 2
+        + digit (getD (byOwner (drop o []) [] (drop (o * p .columns + sc p o + p .columns) bits) w) 0 true)
 
 -- ---- eights of tails. Where data has columns they are read from bit `at` of its buffer on
 columns-at : (p : Layout) (bits : List Bool) (o j d at : ℕ) → (p .columns ≡ 0) ⊎ (at + j * p .columns ≡ d + (o * p .columns + sc p o))

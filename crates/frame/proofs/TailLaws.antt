@@ -10,10 +10,9 @@ use borrow.Author.Tests.{leb-true, leb-false}
 use lib.Dec.{leb}
 use lib.ListN.{length, drop}
 use lib.Seq.{take-all, take-at, drop-at}
-use Rattle.bits.specs.Bits.{lowBits, number}
+use Rattle.bits.specs.Bits.{lowBits, number, nexts}
 use Rattle.bits.proofs.BitLaws.{length-lowBits, lowBits-append, number-fits, number-lowBits}
-use Rattle.places.specs.Streams.{nexts}
-use Rattle.places.proofs.StreamLaws.{nexts-take}
+use Rattle.bits.proofs.NextLaws.{nexts-take}
 use Rattle.frame.specs.Block.{byOwner}
 use Rattle.places.specs.Layout.{inEights, sc, Apart}
 use Rattle.eights.specs.Eight.{eights, endedBy, fieldOf, fieldsOf, raisedBy}

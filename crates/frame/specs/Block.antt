@@ -5,7 +5,7 @@ use Prim.Native.Nat.{ℕ}
 use lib.ListN.{length, getD, take, drop}
 use Rattle.bits.specs.Bits.{bitsOf, octets}
 use Rattle.bas.specs.Words.{wordBits, lineOrder}
-use Rattle.modes.specs.Numbers.{evenFrame, oddFrame}
+use Rattle.numbers.specs.Numbers.{evenFrame, oddFrame}
 use Rattle.modes.specs.declared.Mode.{Mode}
 use Rattle.modes.specs.declared.Owner.the-variants.{Service, Voice, Lsd, Nobody}
 use Rattle.service.specs.Service.{serviceRows}

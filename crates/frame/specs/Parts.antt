@@ -4,8 +4,7 @@ use mathlib.Core.Bool.{Bool, true}
 use mathlib.Core.List.{List, []}
 use Prim.Native.Nat.{ℕ, _+_, _-_, _*_, _^_}
 use lib.ListN.{getD, drop}
-use Rattle.bits.specs.Bits.{number, digit}
-use Rattle.places.specs.Streams.{nexts}
+use Rattle.bits.specs.Bits.{number, digit, nexts}
 use Rattle.eights.specs.Eight.{eights}
 use Rattle.frame.specs.Block.{byOwner}
 use Rattle.places.specs.Layout.{channelBy, sc}

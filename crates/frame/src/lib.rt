@@ -12,8 +12,8 @@ ghost use Rattle.buffers.specs.Lengths.{lineOctets, streamOctets, fitting};
 ghost use Rattle.frame.specs.Parts.{wordAt, headAt, tailAt};
 ghost use Rattle.places.specs.Layout.{rowsBy, inEights, Apart};
 ghost use Rattle.frame.specs.Frame.{Ready, frameSources, frameBy};
-use modes::BlockNumber;
 use modes::Mode;
+use numbers::BlockNumber;
 use places::Layout;
 
 // What stands in the service channel of a block, beside its alignment: A, E and T, the block's number, the remainder of the block before and the BAS code.
@@ -33,10 +33,10 @@ fn heads(lanes: &mut [usize], p: Layout, mute: bool, voice: &[u8], v: usize)
 {
     let c = p.columns as usize;
     if mute {
-        eights::lay_top(lanes, 0, c, voice, v / 8);
+        lanes::lay_top(lanes, 0, c, voice, v / 8);
         return;
     }
-    eights::lay_top(lanes, p.width as usize, c, voice, v / 8);
+    lanes::lay_top(lanes, p.width as usize, c, voice, v / 8);
 }
 
 // Eights a to b of a frame's ten, those that hold data's SC octets: in a run where they are its own whole, and else each by itself.
@@ -48,10 +48,10 @@ fn own_eights(lanes: &mut [usize], a: usize, b: usize, p: Layout, lsd: &[u8], d:
 {
     let c = p.columns as usize;
     if places::in_eights(p) {
-        eights::lay(lanes, a, b, lsd, d / 8 + a * c, c + 1, 0, 0);
+        lanes::lay(lanes, a, b, lsd, d / 8 + a * c, c + 1, 0, 0);
         return;
     }
-    eights::cut(lanes, a, b, lsd, d, p.first as usize, p.last as usize);
+    lanes::cut(lanes, a, b, lsd, d, p.first as usize, p.last as usize);
 }
 
 // Data's columns and SC bits in the ten eights of a frame, data from its bit d on: in one run where it has no SC octets, and else in three.
@@ -65,14 +65,14 @@ fn data_eights(lanes: &mut [usize], p: Layout, lsd: &[u8], d: usize)
     let c = p.columns as usize;
     let j = d / 8;
     if p.last < p.first {
-        eights::lay(lanes, 0, 10, lsd, j, c, 1, 1);
+        lanes::lay(lanes, 0, 10, lsd, j, c, 1, 1);
         return;
     }
     let a = (p.first as usize - 1) / 8;
     let b = (p.last as usize + 7) / 8;
-    eights::lay(lanes, 0, a, lsd, j, c, 1, 1);
+    lanes::lay(lanes, 0, a, lsd, j, c, 1, 1);
     own_eights(lanes, a, b, p, lsd, d);
-    eights::lay(lanes, b, 10, lsd, j + b * c + (b - a), c, 1, 1);
+    lanes::lay(lanes, b, 10, lsd, j + b * c + (b - a), c, 1, 1);
 }
 
 // Data's columns and the SC bits in the ten eights of a frame. In the first two the service bits take the place of ones.
@@ -108,7 +108,7 @@ fn write_frame(
     let mut ends: [usize; 10] = [0; 10];
     heads(&mut voiced, p, mute, voice, v);
     tails(&mut ends, p, service, lsd, d);
-    eights::write_sums(frame, &voiced, &ends);
+    lanes::write_sums(frame, &voiced, &ends);
 }
 
 // A frame's sixteen service bits as a number: its row, and its half of the BAS word.
@@ -130,8 +130,8 @@ fn service_of(header: Header) -> Service
 {
     let rows = service::service_rows(header.a, header.e, header.t, header.remainder);
     let block = header.block;
-    let i = modes::even_frame(block).0 as usize;
-    let j = modes::odd_frame(block).0 as usize;
+    let i = numbers::even_frame(block).0 as usize;
+    let j = numbers::odd_frame(block).0 as usize;
     let word = bas::line_order(bas::word_of(header.code));
     let even = rows[i];
     let odd = rows[j];

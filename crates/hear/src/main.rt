@@ -61,7 +61,7 @@ fn write_voice(mode: Mode, voice: &[u8]) -> bool {
 fn walked(recording: &[u8], start: usize) -> bool {
     let mut stepped = Stepped {
         answer: Answer::Place(start),
-        reader: track::fresh(),
+        reader: reader::fresh(),
         place: start,
         lost: false,
     };

@@ -2,9 +2,9 @@
 // and sorted back. What it prints is held to the file `stdout`, whose layouts are those of source document 001.
 use frame::Header;
 use libc::STDOUT_FILENO;
-use modes::BlockNumber;
 use modes::Mode;
 use modes::Owner;
+use numbers::BlockNumber;
 
 fn text(s: &[u8]) {
     io::write_all(STDOUT_FILENO, s);

@@ -1,3 +1,2 @@
 pub mod ModeLaws
 pub mod OwnerLaws
-pub mod TableLaws

@@ -1,33 +1,17 @@
--- Laws of modes: that a block number goes on within its eight, when two modes are one, that listed values are small, that audio off overlaps
--- nothing, what is cleared, and what being in range says.
-use mathlib.Core.Path.{_≡_, refl, sym, ap, _∙_}
-use mathlib.Core.Bool.{Bool, true, false, false≢true, not, cond, _&&_}
-use Prim.Native.Nat.{ℕ, _+_, _<_}
-use native.Mathlib.Omega.{arith}
-use lib.Dec.{eqb, leb, ltb}
-use borrow.Author.Tests.{eqb-true, eq-eqb, not-true, ltb-true, ltb-false, le-leb}
-use Rattle.bits.proofs.BoolLaws.{and-left, and-right, and-make}
-use Rattle.modes.specs.Numbers.{following}
-use Rattle.modes.specs.Table.{audioTable, lsdTable, beside, audioPlaces, lsdPlaces, listedAudio, listedLsd}
-use Rattle.modes.specs.Owners.{within, holds, heldBy, some, clash, overlaps}
-use Rattle.modes.specs.Modes.{audioOff, lsdOff, off, withAudio, withLsd, mode, sameMode, givenWay, cleared, inRange}
-use Rattle.modes.specs.declared.BlockNumber.{BlockNumber}
-use Rattle.modes.specs.declared.Places.{Places}
+-- Laws of modes: when two modes are one, that audio off overlaps nothing, what is cleared, and what being in range says.
+use mathlib.Core.Path.{_≡_, refl, sym, _∙_}
+use mathlib.Core.Bool.{true, false, not, cond, _&&_}
+use Prim.Native.Nat.{ℕ}
+use lib.Dec.{eqb}
+use borrow.Author.Tests.{eqb-true, eq-eqb, not-true}
+use Rattle.bits.proofs.BoolLaws.{and-left, and-right}
+use Rattle.table.specs.Table.{audioTable, lsdTable, beside, audioPlaces, lsdPlaces, listedAudio, listedLsd}
+use Rattle.modes.specs.Owners.{holds, heldBy, some, clash, overlaps}
+use Rattle.modes.specs.Modes.{audioOff, lsdOff, off, withAudio, withLsd, sameMode, givenWay, cleared, inRange}
 use Rattle.modes.specs.declared.Mode.{Mode}
 use Rattle.modes.specs.declared.Owner.the-variants.{Voice, Lsd}
-use Rattle.modes.proofs.TableLaws.{audio-past, lsd-past, audio-shape}
+use Rattle.table.proofs.TableLaws.{audio-shape}
 use Rattle.modes.proofs.OwnerLaws.{clash-swapped, overlaps-two, overlaps-is}
-
--- ---- a block is followed by one of the eight
-pub following-low : (b : BlockNumber) → within 1 8 ((following b) .0) ≡ true
-unfolding following
-following-low b = go (ltb (b .0) 8) refl
-  where
-    go : (t : Bool) → ltb (b .0) 8 ≡ t → within 1 8 (cond t (b .0 + 1) 1) ≡ true
-    go true e =
-        let l = ltb-true (b .0) 8 e in
-        and-make (leb 1 (b .0 + 1)) (leb (b .0 + 1) 8) (le-leb 1 (b .0 + 1) (omega arith)) (le-leb (b .0 + 1) 8 (omega arith))
-    go false e = refl
 
 -- ---- two modes are one where their fields are
 pub same-mode : (m n : Mode) → sameMode m n ≡ true → m ≡ n
@@ -40,21 +24,6 @@ same-mode m n t =
 
 pub same-mode-self : (m : Mode) → sameMode m m ≡ true
 same-mode-self m = rw (eq-eqb (m .audio) (m .audio) refl, eq-eqb (m .lsd) (m .lsd) refl)
-
--- ---- listed values are small
-pub audio-small : (v : ℕ) → listedAudio v ≡ true → v < 32
-audio-small v t = go (ltb v 32) refl
-  where
-    go : (b : Bool) → ltb v 32 ≡ b → v < 32
-    go true e = ltb-true v 32 e
-    go false e = absurd (false≢true (sym (ap (λ (p : Places). p .listed) (audio-past v (ltb-false v 32 e))) ∙ t))
-
-pub lsd-small : (v : ℕ) → listedLsd v ≡ true → v < 15
-lsd-small v t = go (ltb v 15) refl
-  where
-    go : (b : Bool) → ltb v 15 ≡ b → v < 15
-    go true e = ltb-true v 15 e
-    go false e = absurd (false≢true (sym (ap (λ (p : Places). p .listed) (lsd-past v (ltb-false v 15 e))) ∙ t))
 
 -- ---- whether streams overlap goes by their two values alone
 pub overlaps-by : (m n : Mode) → m .audio ≡ n .audio → m .lsd ≡ n .lsd → overlaps m ≡ overlaps n

@@ -9,14 +9,14 @@ use lib.Dec.{eqb, leb}
 use borrow.Author.Tests.{leb-true, leb-false, eqb-true, le-leb, ne-eqb}
 use Rattle.bits.specs.Bits.{digit}
 use Rattle.bits.proofs.BoolLaws.{and-left, and-right, and-make}
-use Rattle.modes.specs.Numbers.{octet}
-use Rattle.modes.specs.Table.{audioPlaces, lsdPlaces}
-use Rattle.modes.specs.Owners.{within, ownerNumber, sameOwner, holds, heldBy, some, sum, clash, overlaps, bitsPerFrame}
+use Rattle.numbers.specs.Numbers.{within, octet}
+use Rattle.table.specs.Table.{scOctets, octetBitsFrom, audioPlaces, lsdPlaces}
+use Rattle.modes.specs.Owners.{ownerNumber, sameOwner, holds, heldBy, some, sum, clash, overlaps, bitsPerFrame}
 use Rattle.modes.specs.declared.Mode.{Mode}
-use Rattle.modes.specs.declared.Places.{Places}
+use Rattle.table.specs.declared.Places.{Places}
 use Rattle.modes.specs.declared.Owner.{Owner}
 use Rattle.modes.specs.declared.Owner.the-variants.{Service, Voice, Lsd, Nobody}
-use Rattle.modes.proofs.TableLaws.{Fit, audio-fit, lsd-fit, audio-shape, lsd-shape}
+use Rattle.table.proofs.TableLaws.{Fit, fit, audio-fit, lsd-fit, audio-shape, lsd-shape}
 
 -- ---- an owner is its number
 ownerAt : ℕ → Owner
@@ -34,6 +34,14 @@ owner-back Nobody = refl
 
 pub same-owner : (o p : Owner) → sameOwner o p ≡ true → o ≡ p
 same-owner o p t = sym (owner-back o) ∙ ap ownerAt (eqb-true (ownerNumber o) (ownerNumber p) t) ∙ owner-back p
+
+-- ---- what any owner holds lies in a frame
+pub held-fit : (m : Mode) (o : Owner) → Fit (heldBy m o)
+unfolding heldBy
+held-fit m Service = fit (scOctets (octet 1) (octet 16)) refl
+held-fit m Voice = audio-fit (m .audio)
+held-fit m Lsd = lsd-fit (m .lsd)
+held-fit m Nobody = fit (octetBitsFrom 8) refl
 
 -- ---- some number of 1 to n
 some-at : (n : ℕ) (p : ℕ → Bool) (k : ℕ) → 1 ≤ k → k ≤ n → p k ≡ true → some n p ≡ true

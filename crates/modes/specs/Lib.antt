@@ -1,4 +1,2 @@
-pub mod Numbers
-pub mod Table
 pub mod Owners
 pub mod Modes

@@ -4,7 +4,7 @@ use mathlib.Core.Bool.{Bool, not, cond, _&&_}
 use mathlib.Core.List.{List, [], _∷_}
 use Prim.Native.Nat.{ℕ}
 use lib.Dec.{eqb}
-use Rattle.modes.specs.Table.{listedAudio, listedLsd}
+use Rattle.table.specs.Table.{listedAudio, listedLsd}
 use Rattle.modes.specs.Owners.{streams, without, heldBy, clash, overlaps}
 use Rattle.modes.specs.declared.Mode.{Mode}
 use Rattle.modes.specs.declared.Owner.{Owner}

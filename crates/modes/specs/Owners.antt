@@ -1,20 +1,16 @@
 -- Document 01, 'Codes and bit places': whose each place of a frame is. A place is an octet number, 1 to 80, and a bit, 1 to 8.
 use mathlib.Core.Bool.{Bool, false, cond, _&&_, _||_}
 use mathlib.Core.List.{List, [], _∷_}
-use Prim.Native.Nat.{ℕ, zero, suc, _+_}
-use lib.Dec.{leb, eqb}
+use Prim.Native.Nat.{ℕ, zero, suc, _+_, _*_}
+use lib.Dec.{eqb}
 use Rattle.bits.specs.Bits.{scPlace, digit}
-use Rattle.modes.specs.Numbers.{octet}
-use Rattle.modes.specs.Table.{scOctets, octetBitsFrom, audioPlaces, lsdPlaces}
-use Rattle.modes.specs.declared.OctetNumber.{OctetNumber}
-use Rattle.modes.specs.declared.Places.{Places}
+use Rattle.numbers.specs.Numbers.{within, octet}
+use Rattle.table.specs.Table.{scOctets, octetBitsFrom, audioPlaces, lsdPlaces}
+use Rattle.numbers.specs.declared.OctetNumber.{OctetNumber}
+use Rattle.table.specs.declared.Places.{Places}
 use Rattle.modes.specs.declared.Mode.{Mode}
 use Rattle.modes.specs.declared.Owner.{Owner}
 use Rattle.modes.specs.declared.Owner.the-variants.{Service, Voice, Lsd, Nobody}
-
--- n is one of a to b
-abbrev pub within : ℕ → ℕ → ℕ → Bool
-within a b n = leb a n && leb n b
 
 -- each owner by a number of its own
 abbrev pub ownerNumber : Owner → ℕ
@@ -86,3 +82,7 @@ overlaps m = two (λ (o p : Owner). clash (heldBy m o) (heldBy m p)) streams
 -- how many places of a frame are held
 unfoldable pub bitsPerFrame : Places → ℕ
 bitsPerFrame p = sum 80 (λ (n : ℕ). sum 8 (λ (bit : ℕ). digit (holds p (octet n) bit)))
+
+-- how many bits of a stream's buffer count: twice its bits per frame, since a block is two frames
+abbrev pub counting : Owner → Mode → ℕ
+counting o m = 2 * bitsPerFrame (heldBy m o)

@@ -1,21 +1,11 @@
-// Frames, blocks and octets by number, the bit places of each audio and data value, and modes (document 01, 'What the unit carries' and
-// 'Codes and bit places').
+// Modes, and whose each place of a frame is under one (document 01, 'Codes and bit places').
 ghost use mathlib.Core.Path.{_≡_};
 ghost use mathlib.Core.Bool.{_&&_, _||_};
 ghost use lib.Dec.{leb};
-ghost use Rattle.modes.specs.Numbers.{evenFrame, oddFrame, following};
-ghost use Rattle.modes.specs.Table.{audioPlaces, lsdPlaces};
 ghost use Rattle.modes.specs.Owners.{holds, heldBy, ownerOf, overlaps, bitsPerFrame};
 ghost use Rattle.modes.specs.Modes.{off, withAudio, withLsd, sameMode, turnedOff, givenWay, inRange};
-
-// The three numbers that are counted apart: a frame of a multiframe, 0 to 15; a block of it, 1 to 8; an octet of a frame, 1 to 80.
-pub struct FrameNumber(pub u8);
-
-// Laid out as in C, as all that a state holds: states cross to a card driver as they stand.
-#[repr(C)]
-pub struct BlockNumber(pub u8);
-
-pub struct OctetNumber(pub u8);
+use numbers::OctetNumber;
+use table::Places;
 
 // What is in force: an audio value of (000) and a data value of (011).
 #[repr(C)]
@@ -24,153 +14,12 @@ pub struct Mode {
     pub lsd: u8,
 }
 
-// Octet bits `from` to `to` of every octet, and the SC bit of octets `first` to `last`. A range that ends before it starts is empty.
-pub struct Places {
-    pub listed: bool,
-    pub from: u8,
-    pub to: u8,
-    pub first: OctetNumber,
-    pub last: OctetNumber,
-}
-
 // Whose a place is. Lsd is the data stream.
 pub enum Owner {
     Service,
     Voice,
     Lsd,
     Nobody,
-}
-
-// From audio value to the octet bits it holds, 1 to w. 0 is none of them, and 8 says that the value is not listed.
-const AUDIO: [u8; 32] = [
-    0,
-    8,
-    8,
-    8,
-    8,
-    8,
-    8,
-    8,
-    8,
-    8,
-    8,
-    1,
-    8,
-    8,
-    8,
-    8,
-    8,
-    8,
-    7,
-    7,
-    6,
-    6,
-    8,
-    8,
-    7,
-    6,
-    8,
-    4,
-    3,
-    2,
-    8,
-    0,
-];
-
-// From data value to what it holds: octet bits a to 7, and SC octets f to l. From 8 to 7, and from 17 to 16, is none.
-const LSD: [[u8; 3]; 15] = [
-    [8, 17, 16],
-    [8, 38, 40],
-    [8, 29, 40],
-    [8, 33, 80],
-    [8, 17, 80],
-    [7, 17, 16],
-    [7, 25, 40],
-    [7, 17, 80],
-    [6, 17, 16],
-    [5, 17, 16],
-    [4, 17, 16],
-    [3, 17, 16],
-    [2, 17, 16],
-    [1, 17, 16],
-    [1, 17, 80],
-];
-
-// The places of audio [v].
-pub fn audio_places(v: u8) -> Places
-    ensures { λ r. ⌜ r ≡ audioPlaces v ⌝ }
-{
-    if v < 32 {
-        let w = AUDIO[v as usize];
-        if w < 8 {
-            return Places {
-                listed: true,
-                from: 1,
-                to: w,
-                first: OctetNumber(17),
-                last: OctetNumber(16),
-            };
-        }
-    }
-    Places {
-        listed: false,
-        from: 1,
-        to: 0,
-        first: OctetNumber(17),
-        last: OctetNumber(16),
-    }
-}
-
-// The places of data [v].
-pub fn lsd_places(v: u8) -> Places
-    ensures { λ r. ⌜ r ≡ lsdPlaces v ⌝ }
-{
-    if v < 15 {
-        let held = LSD[v as usize];
-        return Places {
-            listed: true,
-            from: held[0],
-            to: 7,
-            first: OctetNumber(held[1]),
-            last: OctetNumber(held[2]),
-        };
-    }
-    Places {
-        listed: false,
-        from: 8,
-        to: 7,
-        first: OctetNumber(17),
-        last: OctetNumber(16),
-    }
-}
-
-// The even frame of a block, and the odd one.
-pub fn even_frame(block: BlockNumber) -> FrameNumber
-    ensures { λ r. ⌜ r ≡ evenFrame block ⌝ }
-{
-    let b = block.0;
-    if b == 0 {
-        return FrameNumber(0);
-    }
-    FrameNumber((b - 1) % 8 * 2)
-}
-
-pub fn odd_frame(block: BlockNumber) -> FrameNumber
-    ensures { λ r. ⌜ r ≡ oddFrame block ⌝ }
-{
-    let even = even_frame(block);
-    FrameNumber(even.0 + 1)
-}
-
-// The block after a block.
-pub fn next_block(block: BlockNumber) -> BlockNumber
-    ensures { λ r. ⌜ r ≡ following block ⌝ }
-{
-    let b = block.0;
-    if b < 8 {
-        return BlockNumber(b + 1);
-    }
-    BlockNumber(1)
 }
 
 // Everything off: audio [31] and data [0].
@@ -218,8 +67,8 @@ pub fn held_by(mode: Mode, owner: Owner) -> Places
             first: OctetNumber(1),
             last: OctetNumber(16),
         },
-        Owner::Voice => audio_places(mode.audio),
-        Owner::Lsd => lsd_places(mode.lsd),
+        Owner::Voice => table::audio_places(mode.audio),
+        Owner::Lsd => table::lsd_places(mode.lsd),
         Owner::Nobody => Places {
             listed: true,
             from: 8,
@@ -275,8 +124,8 @@ fn touch(v: Places, d: Places) -> bool
 pub fn overlap(mode: Mode) -> bool
     ensures { λ r. ⌜ r ≡ overlaps mode ⌝ }
 {
-    let v = audio_places(mode.audio);
-    let d = lsd_places(mode.lsd);
+    let v = table::audio_places(mode.audio);
+    let d = table::lsd_places(mode.lsd);
     touch(v, d)
 }
 
@@ -318,7 +167,7 @@ pub fn bits_per_frame(mode: Mode, owner: Owner) -> u16
 pub fn in_range(mode: Mode) -> bool
     ensures { λ r. ⌜ r ≡ inRange mode ⌝ }
 {
-    let v = audio_places(mode.audio);
-    let d = lsd_places(mode.lsd);
+    let v = table::audio_places(mode.audio);
+    let d = table::lsd_places(mode.lsd);
     v.listed & (mode.audio != 0) & d.listed & !touch(v, d)
 }

@@ -6,12 +6,12 @@ use Prim.Native.Nat.{ℕ, _+_, _-_, _*_, _≤_, _<_, min}
 use native.Mathlib.Nat.{mul-comm}
 use native.Mathlib.Omega.{arith}
 use lib.ListN.{length, length-append}
-use Rattle.modes.specs.Table.{audioPlaces, lsdPlaces}
+use Rattle.table.specs.Table.{audioPlaces, lsdPlaces}
 use Rattle.modes.specs.Owners.{heldBy, overlaps, bitsPerFrame}
 use Rattle.modes.specs.declared.Mode.{Mode}
 use Rattle.modes.specs.declared.Owner.{Owner}
 use Rattle.modes.specs.declared.Owner.the-variants.{Voice, Lsd}
-use Rattle.modes.proofs.TableLaws.{audio-fit, lsd-fit, audio-shape, lsd-shape}
+use Rattle.table.proofs.TableLaws.{audio-fit, lsd-fit, audio-shape, lsd-shape}
 use Rattle.modes.proofs.OwnerLaws.{voice-ends-first, bits-per-frame-is}
 use Rattle.places.specs.Streams.{count}
 use Rattle.places.specs.Places.{places}

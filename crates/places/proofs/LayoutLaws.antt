@@ -10,15 +10,15 @@ use lib.Dec.{eqb, leb, lit<}
 use borrow.Author.Tests.{leb-true, leb-false, eqb-true, le-leb, ne-eqb}
 use lib.ListN.{length, replicate, length-append, length-replicate}
 use Rattle.bits.proofs.BoolLaws.{and-left, and-right, everyBelow, below}
-use Rattle.modes.specs.Numbers.{octet}
-use Rattle.modes.specs.Table.{octetBitsFrom, notListed, lsdTable, lsdPlaces}
-use Rattle.modes.specs.Owners.{within, sameOwner, holds, heldBy, ownerOf}
+use Rattle.numbers.specs.Numbers.{within, octet}
+use Rattle.table.specs.Table.{octetBitsFrom, notListed, lsdTable, lsdPlaces}
+use Rattle.modes.specs.Owners.{sameOwner, holds, heldBy, ownerOf}
 use Rattle.modes.specs.declared.Mode.{Mode}
-use Rattle.modes.specs.declared.OctetNumber.{OctetNumber}
-use Rattle.modes.specs.declared.Places.{Places}
+use Rattle.numbers.specs.declared.OctetNumber.{OctetNumber}
+use Rattle.table.specs.declared.Places.{Places}
 use Rattle.modes.specs.declared.Owner.{Owner}
 use Rattle.modes.specs.declared.Owner.the-variants.{Service, Voice, Lsd, Nobody}
-use Rattle.modes.proofs.TableLaws.{beside-all, audio-fit, lsd-fit, audio-shape, lsd-shape}
+use Rattle.table.proofs.TableLaws.{beside-all, audio-fit, lsd-fit, audio-shape, lsd-shape}
 use Rattle.modes.proofs.OwnerLaws.{same-owner}
 use Rattle.places.specs.Streams.{same, count}
 use Rattle.places.specs.Places.{ownersOf, ownersTo}
@@ -173,16 +173,30 @@ eights-at p t =
 pub eights-through : (p : Layout) → Apart p → inEights p ≡ true → (80 * p .columns + sc p 80) % 8 ≡ 0
 eights-through p a t = omega (arith, eights-at p t .0, eights-at p t .1, a .runs, a .until)
 
+-- ---- whose the SC bit of octet o is: the service channel's up to 16, data's in its range, and nobody's before that range and after it
+pub channel-cases : (p : Layout) (o : ℕ) (P : Owner → Type 0) → (o ≤ 16 → P Service) → (16 < o → p .first ≤ o → o ≤ p .last → P Lsd)
+    → (16 < o → o < p .first → P Nobody) → (16 < o → p .last < o → P Nobody) → P (channelBy p o)
+unfolding channelBy
+channel-cases p o P service lsd before after = go (leb o 16) (leb (p .first) o) (leb o (p .last)) refl refl refl
+  where
+    go : (a b c : Bool) → leb o 16 ≡ a → leb (p .first) o ≡ b → leb o (p .last) ≡ c → P (cond a Service (cond b (cond c Lsd Nobody) Nobody))
+    go true b c ea eb ec = service (leb-true o 16 ea)
+    go false true true ea eb ec = lsd (leb-false o 16 ea) (leb-true (p .first) o eb) (leb-true o (p .last) ec)
+    go false true false ea eb ec = after (leb-false o 16 ea) (leb-false o (p .last) ec)
+    go false false c ea eb ec = before (leb-false o 16 ea) (leb-false (p .first) o eb)
+
+pub channel-service : (p : Layout) (o : ℕ) → o ≤ 16 → channelBy p o ≡ Service
+channel-service p o h =
+    channel-cases p o (λ (w : Owner). w ≡ Service) (λ l. refl) (λ l f u. absurd (omega arith)) (λ l b. absurd (omega arith)) (λ l a. absurd (omega arith))
+
+pub channel-lsd : (p : Layout) (o : ℕ) → 16 < o → p .first ≤ o → o ≤ p .last → channelBy p o ≡ Lsd
+channel-lsd p o h f u =
+    channel-cases p o (λ (w : Owner). w ≡ Lsd) (λ l. absurd (omega arith)) (λ l g v. refl) (λ l b. absurd (omega arith)) (λ l a. absurd (omega arith))
+
 -- ---- how many of the places of octets 1 to n are each owner's
 pub no-voice : (p : Layout) (o : ℕ) → same Voice (channelBy p o) ≡ 0
-unfolding same channelBy
-no-voice p o = go (leb o 16) (leb (p .first) o) (leb o (p .last))
-  where
-    go : (a b c : Bool) → same Voice (cond a Service (cond b (cond c Lsd Nobody) Nobody)) ≡ 0
-    go true b c = refl
-    go false true true = refl
-    go false true false = refl
-    go false false c = refl
+unfolding same
+no-voice p o = channel-cases p o (λ (w : Owner). same Voice w ≡ 0) (λ l. refl) (λ l f u. refl) (λ l b. refl) (λ l a. refl)
 
 pub count-voice : (p : Layout) (n : ℕ) → count Voice (rowsBy p n) ≡ n * p .width
 unfolding rowsBy rowBy columnsBy count same
@@ -191,15 +205,13 @@ count-voice p (suc n) =
     simp (count-append, count-voice p n, count-all, count-none Voice Nobody, count-none Voice Lsd, no-voice, suc-mul) (omega arith)
 
 sc-more : (p : Layout) (n : ℕ) → Apart p → sc p n + same Lsd (channelBy p (suc n)) ≡ sc p (suc n)
-unfolding same channelBy
-sc-more p n h = go (leb (suc n) 16) (leb (p .first) (suc n)) (leb (suc n) (p .last)) refl refl refl
-  where
-    go : (a b c : Bool) → leb (suc n) 16 ≡ a → leb (p .first) (suc n) ≡ b → leb (suc n) (p .last) ≡ c
-        → sc p n + same Lsd (cond a Service (cond b (cond c Lsd Nobody) Nobody)) ≡ sc p (suc n)
-    go true b c ea eb ec = omega (arith, leb-true, leb-false)
-    go false true true ea eb ec = omega (arith, leb-true, leb-false)
-    go false true false ea eb ec = omega (arith, leb-true, leb-false)
-    go false false c ea eb ec = omega (arith, leb-true, leb-false)
+unfolding same
+sc-more p n h =
+    channel-cases p (suc n) (λ (w : Owner). sc p n + same Lsd w ≡ sc p (suc n))
+    (λ l. omega (arith, h .after))
+    (λ l f u. omega arith)
+    (λ l b. omega arith)
+    (λ l a. omega arith)
 
 pub count-lsd : (p : Layout) (n : ℕ) → Apart p → count Lsd (rowsBy p n) ≡ n * p .columns + sc p n
 unfolding rowsBy rowBy columnsBy count same
@@ -208,15 +220,13 @@ count-lsd p (suc n) h =
     simp (count-append, count-lsd p n h, count-all, count-none Lsd Nobody, count-none Lsd Voice, suc-mul) (omega (arith, sc-more p n h))
 
 service-more : (p : Layout) (n : ℕ) → min n 16 + same Service (channelBy p (suc n)) ≡ min (suc n) 16
-unfolding same channelBy
-service-more p n = go (leb (suc n) 16) (leb (p .first) (suc n)) (leb (suc n) (p .last)) refl
-  where
-    go : (a b c : Bool) → leb (suc n) 16 ≡ a
-        → min n 16 + same Service (cond a Service (cond b (cond c Lsd Nobody) Nobody)) ≡ min (suc n) 16
-    go true b c e = omega (arith, leb-true, leb-false)
-    go false true true e = omega (arith, leb-true, leb-false)
-    go false true false e = omega (arith, leb-true, leb-false)
-    go false false c e = omega (arith, leb-true, leb-false)
+unfolding same
+service-more p n =
+    channel-cases p (suc n) (λ (w : Owner). min n 16 + same Service w ≡ min (suc n) 16)
+    (λ l. omega arith)
+    (λ l f u. omega arith)
+    (λ l b. omega arith)
+    (λ l a. omega arith)
 
 pub count-service : (p : Layout) (n : ℕ) → count Service (rowsBy p n) ≡ min n 16
 unfolding rowsBy rowBy columnsBy count same

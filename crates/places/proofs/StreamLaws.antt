@@ -4,7 +4,7 @@ use mathlib.Core.Bool.{Bool, true, false, cond}
 use mathlib.Core.Logic.{_⊎_, inl, inr, ⊎-elim}
 use mathlib.Core.List.{List, [], _∷_, _++_, append-assoc}
 use Prim.Native.Nat.{ℕ, zero, suc, _+_, _≤_, _<_}
-use native.Mathlib.Nat.{zero-add, suc-add, add-assoc, not-suc-le-zero, le-of-suc-le-suc}
+use native.Mathlib.Nat.{zero-add, add-assoc, not-suc-le-zero, le-of-suc-le-suc}
 use native.Mathlib.Numerals.{one-add}
 use native.Mathlib.Omega.{arith}
 use lib.ListN.{length, getD, take, drop, replicate, length-append, length-take}
@@ -13,7 +13,8 @@ use Rattle.modes.specs.Owners.{sameOwner}
 use Rattle.modes.specs.declared.Owner.{Owner}
 use Rattle.modes.specs.declared.Owner.the-variants.{Service, Voice, Lsd, Nobody}
 use Rattle.modes.proofs.OwnerLaws.{same-owner}
-use Rattle.places.specs.Streams.{Streams, same, count, rest, fill, sort, nexts}
+use Rattle.places.specs.Streams.{Streams, same, count, rest, fill, sort}
+use Rattle.bits.specs.Bits.{nexts}
 
 -- ---- two owners are one, or not
 pub same-or : (o p : Owner) → (same o p ≡ 0) ⊎ ((same o p ≡ 1) × (o ≡ p))
@@ -97,23 +98,6 @@ fill-agree [] s t h = refl
 fill-agree (p ∷ ps) s t h =
     ap₂ (λ (b : Bool) (l : List Bool). b ∷ l) (h p 0 (rw same-self (omega arith)))
     (fill-agree ps (rest (p ∷ []) s) (rest (p ∷ []) t) (λ o k l. rw (getD-drop, getD-drop) (h o (same o p + 0 + k) (omega arith))))
-
--- ---- the next bits of a stream
-pub length-nexts : (n : ℕ) (l : List Bool) → length (nexts n l) ≡ n
-unfolding nexts
-length-nexts zero l = refl
-length-nexts (suc n) l = ap suc (length-nexts n (drop 1 l))
-
-pub nexts-take : (n : ℕ) (l : List Bool) → n ≤ length l → nexts n l ≡ take n l
-unfolding nexts
-nexts-take zero l h = refl
-nexts-take (suc n) [] h = absurd (not-suc-le-zero h)
-nexts-take (suc n) (b ∷ bs) h = rw (nexts-take n bs (le-of-suc-le-suc h))
-
-pub nexts-append : (m n : ℕ) (l : List Bool) → nexts (m + n) l ≡ nexts m l ++ nexts n (drop m l)
-unfolding nexts
-nexts-append zero n l = rw zero-add
-nexts-append (suc m) n l = rw (suc-add, nexts-append m n (drop 1 l), drop-drop m 1 l, one-add)
 
 -- ---- sorting by parts
 pub sort-append : (o : Owner) (ps qs : List Owner) (bs : List Bool) → sort o (ps ++ qs) bs ≡ sort o ps bs ++ sort o qs (drop (length ps) bs)

@@ -1,10 +1,10 @@
 -- Document 01, 'Codes and bit places': the places of a frame in sending order.
 use mathlib.Core.List.{List, [], _∷_, _++_}
 use Prim.Native.Nat.{ℕ, zero, suc}
-use Rattle.modes.specs.Numbers.{octet}
+use Rattle.numbers.specs.Numbers.{octet}
 use Rattle.modes.specs.Owners.{ownerOf}
 use Rattle.modes.specs.declared.Mode.{Mode}
-use Rattle.modes.specs.declared.OctetNumber.{OctetNumber}
+use Rattle.numbers.specs.declared.OctetNumber.{OctetNumber}
 use Rattle.modes.specs.declared.Owner.{Owner}
 
 -- the eight places of an octet, bit 1 first

@@ -1,7 +1,7 @@
 -- Document 01, 'Codes and bit places': filling places from streams, and sorting them out again. Both read one list of owners.
 use mathlib.Core.Bool.{Bool, true, cond}
 use mathlib.Core.List.{List, [], _∷_, _++_}
-use Prim.Native.Nat.{ℕ, zero, suc, _+_}
+use Prim.Native.Nat.{ℕ, _+_}
 use lib.ListN.{getD, take, drop}
 use Rattle.modes.specs.Owners.{sameOwner}
 use Rattle.modes.specs.declared.Owner.{Owner}
@@ -32,8 +32,3 @@ fill (p ∷ ps) s = getD (s p) 0 true ∷ fill ps (rest (p ∷ []) s)
 unfoldable pub sort : Owner → List Owner → List Bool → List Bool
 sort o [] bs = []
 sort o (p ∷ ps) bs = take (same o p) bs ++ sort o ps (drop 1 bs)
-
--- the next n bits of a stream, 1 where it has run out
-unfoldable pub nexts : ℕ → List Bool → List Bool
-nexts zero l = []
-nexts (suc n) l = getD l 0 true ∷ nexts n (drop 1 l)

@@ -7,9 +7,9 @@ use borrow.Author.Tests.{eq-eqb}
 use Rattle.modes.specs.Modes.{mode}
 use Rattle.modes.proofs.ModeLaws.{in-range, ranged-by}
 use Rattle.codes.specs.Codes.{written, lsdAttribute}
-use Rattle.control.specs.State.{chosenMode, stateInRange, freshWith}
-use Rattle.control.specs.declared.Sender.{Sender}
-use Rattle.control.proofs.RangeLaws.{kept, chosen-small, lsd-in-force-small}
+use Rattle.sender.specs.State.{chosenMode, stateInRange, freshWith}
+use Rattle.sender.specs.declared.Sender.{Sender}
+use Rattle.sender.proofs.StateLaws.{kept, chosen-small, lsd-in-force-small}
 use Rattle.presets.specs.Presets.{presetOf, audioIn, lsdIn, isPreset, presetRead}
 use Rattle.presets.specs.declared.PresetAnswer.the-variants.{Read}
 

@@ -5,10 +5,10 @@ use Prim.Native.Nat.{ℕ, _+_, _*_, _/_, _%_}
 use lib.Dec.{eqb}
 use Rattle.modes.specs.Modes.{audioOff, lsdOff, mode, inRange}
 use Rattle.codes.specs.Codes.{written, lsdAttribute}
-use Rattle.control.specs.State.{stateInRange, freshWith}
+use Rattle.sender.specs.State.{stateInRange, freshWith}
 use Rattle.refusals.specs.Numbers.{numberOf}
 use Rattle.refusals.specs.Rows.{Row, row, firstGiven}
-use Rattle.control.specs.declared.Sender.{Sender}
+use Rattle.sender.specs.declared.Sender.{Sender}
 use Rattle.refusals.specs.declared.Refusal.the-variants.{BadState, NotAPreset}
 use Rattle.refusals.specs.declared.Ruling.{Ruling}
 use Rattle.refusals.specs.declared.Ruling.the-variants.{Refuse, Accept}

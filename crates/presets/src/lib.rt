@@ -1,9 +1,9 @@
 // Presets: a sender's chosen audio and data as sixteen bits (document 01, 'Preset').
 ghost use mathlib.Core.Path.{_≡_};
 ghost use Rattle.presets.specs.Presets.{isPreset, presetRead, presetWritten};
-use control::Sender;
 use refusals::Refusal;
 use refusals::Ruling;
+use sender::Sender;
 
 pub enum PresetAnswer {
     Read,
@@ -37,8 +37,8 @@ pub fn read_preset(bits: u16) -> PresetRead
 {
     let audio = (bits / 2048) as u8;
     let lsd = (bits / 64 % 32) as u8;
-    let state = control::fresh_with(audio);
-    let none = control::fresh_with(31);
+    let state = sender::fresh_with(audio);
+    let none = sender::fresh_with(31);
     let ruling = refusals::judge(Ruling::Accept, Refusal::NotAPreset, !is_preset(bits));
     match ruling {
         Ruling::Refuse(why) => PresetRead {
@@ -60,7 +60,7 @@ pub fn write_preset(s: Sender) -> PresetWritten
 {
     let chosen = s.chosen;
     let lsd = s.mode.lsd;
-    let ruling = refusals::judge(Ruling::Accept, Refusal::BadState, !control::in_range(s));
+    let ruling = refusals::judge(Ruling::Accept, Refusal::BadState, !sender::in_range(s));
     match ruling {
         Ruling::Refuse(why) => PresetWritten::Unwritten(why),
         Ruling::Accept => PresetWritten::Bits((chosen as u16) * 2048 + (lsd as u16) * 64),

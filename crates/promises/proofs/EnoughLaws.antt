@@ -9,8 +9,8 @@ use Rattle.bits.specs.Bits.{odd, lowBits, scBit, xors}
 use Rattle.crc.specs.Crc.{blockCrcOf}
 use Rattle.bas.specs.Reading.{weight, readingOf}
 use Rattle.bas.specs.declared.Word.the-variants.{Code}
-use Rattle.modes.specs.Numbers.{following}
-use Rattle.modes.specs.Table.{audioTable, lsdTable, beside, audioPlaces, lsdPlaces}
+use Rattle.numbers.specs.Numbers.{following}
+use Rattle.table.specs.Table.{audioTable, lsdTable, beside, audioPlaces, lsdPlaces}
 use Rattle.modes.specs.Owners.{holds, heldBy, some, clash, overlaps}
 use Rattle.modes.specs.Modes.{audioOff, mode, inRange}
 use Rattle.slots.specs.Slots.{dueAfter}
@@ -18,16 +18,16 @@ use Rattle.codes.specs.Carried.{carried, senderCarries, openingOf}
 use Rattle.codes.specs.Commands.{commandOf, offered}
 use Rattle.service.specs.Channel.{channelBits, alignmentBits, wrongBits, basWord}
 use Rattle.round.proofs.HeaderLaws.{right-alignment, code-back}
-use Rattle.control.specs.State.{stateInRange, freshWith}
+use Rattle.sender.specs.State.{stateInRange, freshWith}
 use Rattle.control.specs.Rules.{ruleOf}
 use Rattle.control.specs.Plans.{planBy}
 use Rattle.control.specs.Refusals.{clashes, rulingOf}
 use Rattle.control.specs.Decisions.{decisionOf}
-use Rattle.sender.specs.Step.{blockFor, outcomeOf}
-use Rattle.control.specs.declared.Sender.{Sender}
-use Rattle.sender.specs.declared.Outcome.{Outcome}
+use Rattle.sending.specs.Step.{blockFor, outcomeOf}
+use Rattle.sender.specs.declared.Sender.{Sender}
+use Rattle.sending.specs.declared.Outcome.{Outcome}
 use Rattle.control.specs.declared.Answer.the-variants.{Sent}
-use Rattle.sender.proofs.OutcomeLaws.{stays-in-range}
+use Rattle.sending.proofs.OutcomeLaws.{stays-in-range}
 use Rattle.buffers.specs.Lengths.{lineOctets, zeroed}
 use Rattle.promises.specs.Session.{Turn, turned, after, accepted, entryOf}
 use Rattle.promises.specs.Demand2.{LaidDown}

@@ -7,7 +7,7 @@ use Prim.Native.Nat.{ℕ}
 use native.Mathlib.Omega.{arith}
 use lib.Dec.{eqb}
 use borrow.Author.Tests.{ne-eqb}
-use Rattle.track.specs.declared.Reader.{Reader}
+use Rattle.reader.specs.declared.Reader.{Reader}
 use denote.Ref.{now}
 use Rattle.text.proofs.OverLaws.{written-fits, written-cut}
 use Rattle.refusals.proofs.RowLaws.{number-within, numbered}
@@ -15,13 +15,13 @@ use Rattle.search.specs.Finding as finding
 use Rattle.search.specs.Finding.{searchOf}
 use Rattle.search.specs.declared.Found.{Found}
 use Rattle.control.specs.Refusals as sender-list
-use Rattle.control.specs.declared.Sender.{Sender}
+use Rattle.sender.specs.declared.Sender.{Sender}
 use Rattle.control.specs.declared.Rule.{Rule}
 use Rattle.control.specs.declared.Answer as sent
-use Rattle.reader.specs.Refusals as reader-list
-use Rattle.reader.specs.Step as reading
-use Rattle.reader.specs.declared.Answer as read
-use Rattle.reader.proofs.OutcomeLaws.{told, look-read}
+use Rattle.reading.specs.Refusals as reader-list
+use Rattle.reading.specs.Step as reading
+use Rattle.reading.specs.declared.Answer as read
+use Rattle.reading.proofs.OutcomeLaws.{told, look-read}
 use Rattle.recording.specs.Refusals as walk-list
 use Rattle.recording.specs.Walk.{stepAt}
 use Rattle.recording.specs.declared.Answer as walked
@@ -35,13 +35,13 @@ use Rattle.answers.specs.declared.SendAnswer.{SendAnswer}
 use Rattle.answers.specs.declared.ReadAnswer.{ReadAnswer}
 use Rattle.answers.specs.declared.SearchAnswer.{SearchAnswer}
 use Rattle.answers.specs.declared.StepAnswer.{StepAnswer}
-use Rattle.answers.specs.declared.PresetAnswer.{PresetAnswer}
-use Rattle.answers.specs.declared.PresetBits.{PresetBits}
+use Rattle.presetting.specs.declared.PresetAnswer.{PresetAnswer}
+use Rattle.presetting.specs.declared.PresetBits.{PresetBits}
 use Rattle.presets.specs.Presets.{presetRead, presetNumber}
 use Rattle.calls.specs.Sending.{on}
 use Rattle.calls.specs.Sending as call-sends
 use Rattle.calls.specs.Walking.{markAfter}
-use Rattle.saving.specs.declared.WalkState.{WalkState}
+use Rattle.keeping.specs.declared.WalkState.{WalkState}
 use Rattle.calls.proofs.ReadLaws.{mark-still}
 use Rattle.buffers.specs.Lengths.{zeroed}
 use Rattle.promises.specs.Session.{Turn, turned}

@@ -8,25 +8,25 @@ use native.Mathlib.Omega.{arith}
 use lib.ListN.{getD, replicate}
 use Rattle.crc.specs.Crc.{blockCrcOf}
 use Rattle.bits.specs.Bits.{number}
-use Rattle.modes.specs.Numbers.{following}
-use Rattle.modes.specs.Table.{audioTable, lsdTable, beside, audioPlaces, lsdPlaces}
+use Rattle.numbers.specs.Numbers.{following}
+use Rattle.table.specs.Table.{audioTable, lsdTable, beside, audioPlaces, lsdPlaces}
 use Rattle.modes.specs.Owners.{holds, heldBy, some, clash, overlaps}
 use Rattle.modes.specs.Modes.{audioOff, mode, inRange}
 use Rattle.codes.specs.Codes.{neutral}
 use Rattle.codes.specs.Carried.{carried, senderCarries}
-use Rattle.control.specs.State.{sounding, stateInRange, freshWith}
+use Rattle.sender.specs.State.{sounding, stateInRange, freshWith}
 use Rattle.control.specs.Rules.{ruleOf}
 use Rattle.control.specs.Plans.{planBy}
 use Rattle.control.specs.Refusals.{clashes, rulingOf}
 use Rattle.control.specs.Decisions.{decisionOf}
-use Rattle.sender.specs.Step.{blockFor, outcomeOf}
-use Rattle.control.specs.declared.Sender.{Sender}
+use Rattle.sending.specs.Step.{blockFor, outcomeOf}
+use Rattle.sender.specs.declared.Sender.{Sender}
 use Rattle.control.specs.declared.Answer.the-variants.{Sent, Held}
-use Rattle.sender.proofs.OutcomeLaws.{stays-in-range}
+use Rattle.sending.proofs.OutcomeLaws.{stays-in-range}
 use Rattle.slots.specs.declared.Due.the-variants.{Plain}
 use Rattle.slots.specs.Slots.{slotOf}
-use Rattle.track.specs.State.{stateInRange as readerInRange}
-use Rattle.track.specs.declared.Reader.{Reader}
+use Rattle.reader.specs.State.{stateInRange as readerInRange}
+use Rattle.reader.specs.declared.Reader.{Reader}
 use Rattle.buffers.specs.Lengths.{lineOctets, streamOctets, zeroed}
 use Rattle.buffers.specs.Buffers.{each}
 use Rattle.promises.specs.Demand2.{wordSent, InStep, Agrees, EightBits}

@@ -5,16 +5,16 @@ use Rattle.bits.specs.Bits.{odd, lowBits, scBit, withoutSc, bitsOf, number, xor
 use Rattle.bits.specs.Remainder.{scaled, fed, continued, remainder}
 use Rattle.crc.specs.Crc.{crc4Of, summed, summedFrom, blockCrcOf}
 use Rattle.bas.specs.Words.{checkOf, wordBits, evenOrder, oddOrder, lineOrder}
-use Rattle.modes.specs.Table.{audioTable, lsdTable, beside, audioPlaces, lsdPlaces}
+use Rattle.table.specs.Table.{audioTable, lsdTable, beside, audioPlaces, lsdPlaces}
 use Rattle.modes.specs.Owners.{holds, heldBy, some, clash, overlaps}
 use Rattle.modes.specs.Modes.{inRange}
 use Rattle.codes.specs.Carried.{carried, senderCarries}
-use Rattle.control.specs.State.{stateInRange}
+use Rattle.sender.specs.State.{stateInRange}
 use Rattle.control.specs.Rules.{ruleOf}
 use Rattle.control.specs.Plans.{planBy}
 use Rattle.control.specs.Refusals.{clashes, rulingOf}
 use Rattle.control.specs.Decisions.{decisionOf}
-use Rattle.sender.specs.Step.{outcomeOf}
+use Rattle.sending.specs.Step.{outcomeOf}
 use Rattle.promises.specs.Figures.{figures, AllAsSaid}
 
 pub figures-hold : AllAsSaid

@@ -5,17 +5,17 @@ use mathlib.Core.Logic.{_⊎_, inl, inr}
 use Prim.Native.Nat.{ℕ, zero, suc}
 use native.Mathlib.Omega.{arith}
 use Rattle.bas.specs.declared.Word.the-variants.{Code}
-use Rattle.modes.specs.Table.{audioTable, beside, audioPlaces}
+use Rattle.table.specs.Table.{audioTable, beside, audioPlaces}
 use Rattle.modes.specs.Modes.{audioOff}
 use Rattle.modes.specs.declared.Mode.{Mode}
 use Rattle.codes.specs.Carried.{carried, readerCarries}
 use Rattle.codes.specs.Commands.{commandOf, offered}
-use Rattle.slots.specs.Readings.{readingIn}
+use Rattle.words.specs.Readings.{readingIn}
 use Rattle.slots.specs.declared.Due.{Due}
 use Rattle.slots.specs.declared.Due.the-variants.{Plain}
-use Rattle.slots.specs.declared.Reading.the-variants.{Mended}
+use Rattle.words.specs.declared.Reading.the-variants.{Mended}
 use Rattle.control.specs.declared.Rule.{Rule}
-use Rattle.track.specs.declared.Reader.{Reader}
+use Rattle.reader.specs.declared.Reader.{Reader}
 use Rattle.promises.specs.Session.{after, Entry, log}
 use Rattle.promises.specs.Demand2.{wordSent, commanded, readerAfter, Back, AllBack}
 use Rattle.promises.specs.Demand3.{MuteGone, By, MuteHeard, HeardBy, MuteIsHeard}

@@ -15,50 +15,50 @@ use Rattle.bits.proofs.PackLaws.{length-octets}
 use Rattle.bas.specs.Reading.{readingOf}
 use Rattle.bas.specs.declared.Word.the-variants.{Code}
 use Rattle.bas.proofs.ReadingLaws.{two-wrong, three-wrong}
-use Rattle.modes.specs.Numbers.{following}
-use Rattle.modes.specs.Table.{audioTable, beside, audioPlaces}
-use Rattle.modes.specs.declared.BlockNumber.{BlockNumber}
+use Rattle.numbers.specs.Numbers.{following}
+use Rattle.table.specs.Table.{audioTable, beside, audioPlaces}
+use Rattle.numbers.specs.declared.BlockNumber.{BlockNumber}
 use Rattle.modes.specs.declared.Mode.{Mode}
 use Rattle.modes.specs.declared.Owner.the-variants.{Voice, Lsd}
-use Rattle.modes.proofs.ModeLaws.{following-low}
+use Rattle.numbers.proofs.NumberLaws.{following-low}
 use Rattle.codes.specs.Codes.{neutral}
 use Rattle.codes.specs.Carried.{carried, readerCarries}
 use Rattle.codes.specs.Commands.{commandOf, offered, followed}
 use Rattle.slots.specs.Slots.{dueNow, dueAfterNow, dueAfter, dueOf}
-use Rattle.slots.specs.Readings.{codeReading, readingIn, obeyed}
+use Rattle.words.specs.Readings.{codeReading, readingIn, obeyed}
 use Rattle.slots.specs.declared.Due.{Due}
 use Rattle.slots.specs.declared.Due.the-variants.{Plain, AnItem}
-use Rattle.slots.specs.declared.Reading.{Reading}
+use Rattle.words.specs.declared.Reading.{Reading}
 use Rattle.frame.specs.Block.{blockOf}
 use Rattle.service.specs.Channel.{wrongBits, oddFirst, cBits, basWord}
 use Rattle.frame.specs.declared.Header.{Header}
 use Rattle.round.proofs.HeaderLaws.{each8, oddBit, right-alignment, first-bit-back, remainder-back, code-back}
-use Rattle.control.specs.State.{wordDue}
+use Rattle.sender.specs.State.{wordDue}
 use Rattle.control.specs.Plans.{planBy}
 use Rattle.control.specs.Rules.{ruleOf}
 use Rattle.control.specs.Refusals.{goesPlain, goesAsItem}
-use Rattle.sender.specs.Step.{headerFor, blockFor}
-use Rattle.control.specs.declared.Sender.{Sender}
+use Rattle.sending.specs.Step.{headerFor, blockFor}
+use Rattle.sender.specs.declared.Sender.{Sender}
 use Rattle.control.specs.declared.Plan.{Plan}
 use Rattle.control.specs.declared.Rule.{Rule}
 use Rattle.control.specs.declared.Answer.{Answer}
-use Rattle.control.proofs.RangeLaws as sending
-use Rattle.track.specs.State.{block, known}
+use Rattle.sender.proofs.StateLaws as sending
+use Rattle.reader.specs.State.{block, known}
 use Rattle.track.specs.Signs.{signsOf}
 use Rattle.track.specs.Parts as parts
 use Rattle.track.specs.Parts.{multiframeAfter}
 use Rattle.track.specs.Step.{reportOf, nextOf, stepOf}
-use Rattle.reader.specs.Step.{handedBy, Told}
-use Rattle.track.specs.declared.Reader.{Reader}
+use Rattle.reading.specs.Step.{handedBy, Told}
+use Rattle.reader.specs.declared.Reader.{Reader}
 use Rattle.track.specs.declared.Signs.{Signs}
 use Rattle.track.specs.declared.Multiframe.{Multiframe}
-use Rattle.reader.specs.declared.Outcome.{Outcome}
+use Rattle.reading.specs.declared.Outcome.{Outcome}
 use Rattle.track.specs.declared.Stepped.{Stepped}
 use Rattle.track.specs.declared.Report.{Report}
 use Rattle.track.specs.declared.Standing.{Standing}
 use Rattle.track.specs.declared.Standing.the-variants.{Read}
-use Rattle.reader.specs.declared.Answer.the-variants.{Block}
-use Rattle.reader.proofs.OutcomeLaws.{takes, told-taken}
+use Rattle.reading.specs.declared.Answer.the-variants.{Block}
+use Rattle.reading.proofs.OutcomeLaws.{takes, told-taken}
 use Rattle.slots.proofs.SlotLaws.{due-back}
 use Rattle.track.proofs.RangeLaws.{step-in-range}
 use Rattle.sorter.specs.Sorting.{sortedOf, streamsOf}
@@ -139,6 +139,24 @@ module _ (r : Reader) (b : BlockNumber) (due : Due) (same : r .block ≡ b) (bit
   unfolding multiframeAfter
   onward k = rw k (onward-by (eqb (r .block .0) 6) refl)
 
+-- ---- a line that shows a reader this block and this word: no alignment bit is wrong, the first bit is the block's and the word reads as the
+-- code. Its C bits, its remainder and all else may be anything
+pub record Shows (b : BlockNumber) (code : ℕ) (line : List ℕ) : Type 0 where
+  pub wrong : wrongBits line ≡ 0
+  pub first : oddFirst line ≡ bitOf (b .0)
+  pub word : readingOf (basWord line) ≡ Code code
+
+abbrev pub shown : BlockNumber → ℕ → List ℕ → Signs
+shown b code line = record { wrong = 0; c = cBits line; first = bitOf (b .0); word = Code code; remainder = blockCrcOf line }
+
+pub stepped : (b : BlockNumber) (code : ℕ) (line : List ℕ) → Shows b code line
+    → (r : Reader) → stepOf r (signsOf line) ≡ record { state = nextOf r (shown b code line) 0; report = reportOf r (shown b code line) }
+unfolding stepOf
+stepped b code line h r = ap (stepOf r) signs
+  where
+    signs : signsOf line ≡ shown b code line
+    signs = rw (h .wrong, h .first, h .word)
+
 -- ---- an accepted call
 module _ (s : Sender) (x : Turn) (rule : Rule) (w : Went s x rule) where
   abbrev pub entry : Entry
@@ -205,36 +223,34 @@ module _ (s : Sender) (x : Turn) (rule : Rule) (w : Went s x rule) where
       }
 
   -- ---- what the block shows a reader
-  abbrev pub shown : Signs
-  shown =
-      record {
-        wrong = 0;
-        c = s .remainder;
-        first = bitOf (s .block .0);
-        word = Code (plan .word);
-        remainder = blockCrcOf (blockSent entry);
-      }
-
-  shows : x .call .code < 256 → signsOf (blockSent entry) ≡ shown
+  pub shows : x .call .code < 256 → Shows (s .block) (plan .word) (blockSent entry)
   shows small =
       let m = s .mode in
+      record {
+        wrong = ap wrongBits line-is ∙ right-alignment m header (x .call .mute) (x .lent);
+        first = ap oddFirst line-is ∙ first-bit-back m header (x .call .mute) (x .lent);
+        word =
+            ap (λ (l : List ℕ). readingOf (basWord l)) line-is
+            ∙ code-back m header (x .call .mute) (x .lent) (word-small s (x .call .code) rule sends small);
+      }
+
+  c-sent : cBits (blockSent entry) ≡ s .remainder
+  c-sent =
       let low = leb-true (s .remainder) 15 (sends .kept .rest) in
-      let wrong = ap wrongBits line-is ∙ right-alignment m header (x .call .mute) (x .lent) in
-      let c = ap cBits line-is ∙ remainder-back m header (x .call .mute) (x .lent) (omega arith) in
-      let first = ap oddFirst line-is ∙ first-bit-back m header (x .call .mute) (x .lent) in
-      let code = ap (λ (l : List ℕ). readingOf (basWord l)) line-is
-      ∙ code-back m header (x .call .mute) (x .lent) (word-small s (x .call .code) rule sends small) in
-      rw (wrong, c, first, code)
+      ap cBits line-is ∙ remainder-back (s .mode) header (x .call .mute) (x .lent) (omega arith)
 
   pub line-length : length (blockSent entry) ≡ lineOctets
   unfolding blockOf
   line-length = ap length line-is ∙ length-octets lineOctets _
 
-  pub stepped : x .call .code < 256 → (r : Reader) → stepOf r (signsOf (blockSent entry)) ≡ record { state = nextOf r shown 0; report = reportOf r shown }
-  unfolding stepOf
-  stepped small r = ap (stepOf r) (shows small)
+  -- ---- a reader that stands where the sender does, and any line that shows it the block
+  module _ (line : List ℕ) (h : Shows (s .block) (plan .word) line) (r : Reader) (st : Placed s r) where
+    abbrev onward-reader : Reader
+    onward-reader = (stepOf r (signsOf line)) .state
 
-  module _ (small : x .call .code < 256) (r : Reader) (st : Placed s r) where
+    abbrev seen : Signs
+    seen = shown (s .block) (plan .word) line
+
     reading-is : parts.wordRead r (Code (plan .word)) ≡ readingIn (wordDue s) (Code (plan .word))
     reading-is = rw (st .knows) (reading-same (dueOf (r .slot)) (wordDue s) (plan .word) (st .due) (due-now s))
 
@@ -244,14 +260,14 @@ module _ (s : Sender) (x : Turn) (rule : Rule) (w : Went s x rule) where
         rw (st .knows)
         (after-same (dueOf (r .slot)) (wordDue s) (plan .word) (st .due) ∙ due-on)
 
-    next : readerAfter r entry ≡ nextOf r shown 0
-    next = ap (λ (q : Stepped). q .state) (stepped small r)
+    next : onward-reader ≡ nextOf r seen 0
+    next = ap (λ (q : Stepped). q .state) (stepped (s .block) (plan .word) line h r)
 
     number-on : after s x .block ≡ following (s .block)
     number-on = ap (λ (q : Sender). q .block) (w .state)
 
     -- the place goes on
-    placed-again : Placed (after s x) (readerAfter r entry)
+    placed-again : Placed (after s x) onward-reader
     unfolding nextOf
     placed-again =
         let here = onward r (s .block) _ (st .place) (st .bits) (st .knows) in
@@ -263,7 +279,7 @@ module _ (s : Sender) (x : Turn) (rule : Rule) (w : Went s x rule) where
         let hi = leb-true b 8 (and-right (leb 1 b) (leb b 8) within) in
         let place = ap (λ (q : Reader). q .block) next ∙ here .0 in
         record {
-          range = step-in-range r (blockSent entry) (st .range);
+          range = step-in-range r line (st .range);
           knows = ap (λ (q : BlockNumber). not (eqb (q .0) 0)) place ∙ ap not (ne-eqb n 0 (omega arith));
           place = place ∙ sym number-on;
           due =
@@ -274,18 +290,18 @@ module _ (s : Sender) (x : Turn) (rule : Rule) (w : Went s x rule) where
         }
 
     -- the reader's mode is what the word made of it
-    mode-read : (readerAfter r entry) .mode ≡ obeyed (readingIn (wordDue s) (Code (plan .word))) (r .mode)
+    mode-read : onward-reader .mode ≡ obeyed (readingIn (wordDue s) (Code (plan .word))) (r .mode)
     unfolding nextOf
     mode-read = ap (λ (q : Reader). q .mode) next ∙ ap (λ (q : Reading). obeyed q (r .mode)) reading-is
 
-    mode-again : r .mode ≡ s .mode → (readerAfter r entry) .mode ≡ after s x .mode
+    mode-again : r .mode ≡ s .mode → onward-reader .mode ≡ after s x .mode
     mode-again same =
         mode-read
         ∙ ap₂ (λ (d : Due) (m : Mode). obeyed (readingIn d (Code (plan .word))) m) item-is same
         ∙ mode-follows s (x .call .code) rule sends ∙ sym (ap (λ (q : Sender). q .mode) (w .state))
 
     -- neutral makes any two modes the same
-    neutral-again : wordDue s ≡ Plain → plan .word ≡ neutral → (readerAfter r entry) .mode ≡ after s x .mode
+    neutral-again : wordDue s ≡ Plain → plan .word ≡ neutral → onward-reader .mode ≡ after s x .mode
     unfolding obeyed followed offered readingIn commandOf readerCarries carried audioPlaces audioTable beside
     neutral-again none is =
         mode-read
@@ -293,12 +309,17 @@ module _ (s : Sender) (x : Turn) (rule : Rule) (w : Went s x rule) where
         ∙ sym (goes-on .mode
         ∙ ap₂ (λ (d : Due) (n : ℕ). commanded d n (s .mode)) none (word-is ∙ is))
 
+  -- ---- and the line as it was sent
+  module _ (small : x .call .code < 256) (r : Reader) (st : Placed s r) where
+    abbrev sent : Shows (s .block) (plan .word) (blockSent entry)
+    sent = shows small
+
     agrees-again : Agrees (after s x) (readerAfter r entry)
     unfolding nextOf
     agrees-again =
         record {
-          before = λ none. let one : _≡_ {A = ℕ} 1 0 = sym (ap (λ (q : Reader). q .before) next) ∙ none in absurd (omega arith);
-          remainder = ap (λ (q : Reader). q .remainder) next ∙ sym (ap (λ (q : Sender). q .remainder) (w .state));
+          before = λ none. let one : _≡_ {A = ℕ} 1 0 = sym (ap (λ (q : Reader). q .before) (next (blockSent entry) sent r st)) ∙ none in absurd (omega arith);
+          remainder = ap (λ (q : Reader). q .remainder) (next (blockSent entry) sent r st) ∙ sym (ap (λ (q : Sender). q .remainder) (w .state));
         }
 
     -- what it hands out is what was sent
@@ -308,18 +329,18 @@ module _ (s : Sender) (x : Turn) (rule : Rule) (w : Went s x rule) where
     hands-back same b o out fit told =
         let fits = takes r _ _ (record { range = st .range; line-fits = line-length; streams = fit }) in
         let t = told-taken r (blockSent entry) b o out fits told in
-        let is = ap (λ (q : Stepped). q .report) (stepped small r) in
+        let is = ap (λ (q : Stepped). q .report) (stepped (s .block) (plan .word) (blockSent entry) sent r) in
         let read : parts.standingOf r ≡ Read = rw (st .knows) in
         let standing = ap (λ (q : Report). q .standing) is ∙ read in
         let handed = t .1 ∙ ap₂ (λ (q : Standing) (m : Mode). handedBy q m (blockSent entry)) standing same in
         let apart = force-apart s (sends .kept) (s .mode .lsd) (sends .kept .ranges .apart) in
         record {
-          report = reportOf r shown;
+          report = reportOf r (shown (s .block) (plan .word) (blockSent entry));
           answer = ap (λ (q : Outcome). q .answer) (t .0) ∙ ap Block is;
           read = read;
-          word = reading-is ∙ ap (λ (k : ℕ). readingIn (wordDue s) (Code k)) (sym word-is);
+          word = reading-is (blockSent entry) sent r st ∙ ap (λ (k : ℕ). readingIn (wordDue s) (Code k)) (sym word-is);
           first = λ z. rw (eq-eqb (r .before) 0 z);
-          good = λ a. rw (ne-eqb (r .before) 0 (a .before), eq-eqb (s .remainder) (r .remainder) (sym (a .remainder)));
+          good = λ a. rw (ne-eqb (r .before) 0 (a .before), c-sent, eq-eqb (s .remainder) (r .remainder) (sym (a .remainder)));
           streams =
               same-each
               (ap (λ (z : Buffers). z .voice) handed
@@ -337,7 +358,11 @@ module _ (s : Sender) (x : Turn) (rule : Rule) (w : Went s x rule) where
   back small r st =
       record {
         hands = hands-back small r (st .placed) (st .mode);
-        step = record { placed = placed-again small r (st .placed); mode = mode-again small r (st .placed) (st .mode) };
+        step =
+            record {
+              placed = placed-again (blockSent entry) (shows small) r (st .placed);
+              mode = mode-again (blockSent entry) (shows small) r (st .placed) (st .mode);
+            };
         agrees = agrees-again small r (st .placed);
       }
 
@@ -375,6 +400,6 @@ joins-at-neutral s r x small taken st none is = go (turn-cases s x)
     go (inl k) = absurd (false≢true (rw (k .answer) at taken))
     go (inr (rule, w)) =
         record {
-          placed = placed-again s x rule w small r st;
-          mode = neutral-again s x rule w small r st none (sym (word-is s x rule w) ∙ is);
+          placed = placed-again s x rule w (blockSent (entryOf s x)) (shows s x rule w small) r st;
+          mode = neutral-again s x rule w (blockSent (entryOf s x)) (shows s x rule w small) r st none (sym (word-is s x rule w) ∙ is);
         }

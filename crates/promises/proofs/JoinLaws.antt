@@ -10,29 +10,29 @@ use lib.ListN.{length}
 use borrow.Author.Tests.{eqb-true, leb-true, not-true}
 use Rattle.bits.specs.Bits.{number}
 use Rattle.bits.proofs.BoolLaws.{and-left, and-right}
-use Rattle.modes.specs.Numbers.{following}
+use Rattle.numbers.specs.Numbers.{following}
 use Rattle.modes.specs.Modes.{mode}
-use Rattle.modes.specs.declared.BlockNumber.{BlockNumber}
-use Rattle.slots.specs.Slots.{dueNow}
-use Rattle.slots.specs.Readings.{obeyed}
+use Rattle.numbers.specs.declared.BlockNumber.{BlockNumber}
+use Rattle.slots.specs.Slots.{dueNow, slotOf, dueOf}
+use Rattle.words.specs.Readings.{obeyed}
 use Rattle.slots.specs.declared.Due.the-variants.{Plain}
-use Rattle.control.specs.State.{wordDue}
-use Rattle.control.specs.declared.Sender.{Sender}
+use Rattle.sender.specs.State.{wordDue}
+use Rattle.sender.specs.declared.Sender.{Sender}
 use Rattle.control.specs.declared.Rule.{Rule}
-use Rattle.control.proofs.RangeLaws.{kept}
-use Rattle.track.specs.State.{block, unknown, known, stateInRange}
-use Rattle.slots.specs.Slots.{slotOf, dueOf}
+use Rattle.sender.proofs.StateLaws.{kept}
+use Rattle.reader.specs.State.{block, unknown, known, stateInRange}
 use Rattle.track.specs.Parts as parts
 use Rattle.track.specs.Parts.{multiframeAfter}
 use Rattle.track.specs.Step.{nextOf}
-use Rattle.track.specs.declared.Reader.{Reader}
+use Rattle.reader.specs.declared.Reader.{Reader}
 use Rattle.slots.specs.declared.Slot.{Slot}
 use Rattle.track.specs.declared.Stepped.{Stepped}
-use Rattle.track.proofs.RangeLaws.{fresh-in-range, step-in-range}
+use Rattle.reader.proofs.StateLaws.{fresh-in-range}
+use Rattle.track.proofs.RangeLaws.{step-in-range}
 use Rattle.promises.specs.Session.{Turn, after, Entry, log, blockSent, entryOf}
 use Rattle.promises.specs.Demand2.{KeptAsSent, Placed, readerAfter, EightBits, FreshWaits, untilSix, senderOn, readerOn, FindsPlace, ComesIntoStep}
 use Rattle.promises.proofs.TurnLaws.{Stayed, Went, turn-cases, log-stayed, log-went}
-use Rattle.promises.proofs.InStepLaws.{each, bitOf, shown, stepped}
+use Rattle.promises.proofs.InStepLaws.{each, bitOf, shown, stepped, plan, shows}
 
 pub fresh-waits : FreshWaits
 fresh-waits = record { range = fresh-in-range; place = refl; due = refl; bits = refl }
@@ -64,8 +64,8 @@ module _ (s : Sender) (x : Turn) (rule : Rule) (w : Went s x rule) (small : x .c
   abbrev heard : Entry
   heard = entryOf s x
 
-  next : readerAfter r heard ≡ nextOf r (shown s x rule w) 0
-  next = ap (λ (q : Stepped). q .state) (stepped s x rule w small r)
+  next : readerAfter r heard ≡ nextOf r (shown (s .block) ((plan s x rule w) .word) (blockSent heard)) 0
+  next = ap (λ (q : Stepped). q .state) (stepped (s .block) ((plan s x rule w) .word) (blockSent heard) (shows s x rule w small) r)
 
   not-known : known r ≡ false
   not-known = ap (λ (q : BlockNumber). not (eqb (q .0) 0)) (k .place)

@@ -4,8 +4,9 @@ use Prim.Native.Nat.{ℕ, _%_, _<_}
 use native.Mathlib.Omega.{arith}
 use borrow.Author.Tests.{eq-eqb, ne-eqb}
 use Rattle.bits.specs.Bits.{numberAt}
-use Rattle.saving.specs.Saved.{lowFirst}
-use Rattle.saving.proofs.SavedLaws.{sender-back, reader-back, walk-back}
+use Rattle.keeping.specs.SavedWalk.{lowFirst}
+use Rattle.saving.proofs.SavedLaws.{sender-back, reader-back}
+use Rattle.keeping.proofs.SavedWalkLaws.{walk-back}
 use Rattle.promises.specs.Saved.{Saves, SavesSender, SavesReader, SavesWalk, SenderForm, ReaderForm, WalkForm}
 
 pub saves-sender : SavesSender

@@ -1,12 +1,12 @@
 -- A session over the lent state is a session by value, and a block read in C is a block read, in the numbers that cross to C.
 use mathlib.Core.Path.{_≡_, refl, sym, ap, _∙_}
 use mathlib.Core.List.{List, [], _∷_, map}
-use Rattle.slots.specs.Readings.{readingKind, readingCode}
-use Rattle.control.specs.declared.Sender.{Sender}
+use Rattle.words.specs.Readings.{readingKind, readingCode}
+use Rattle.sender.specs.declared.Sender.{Sender}
 use Rattle.track.specs.Parts.{standingNumber, verdictNumber}
-use Rattle.reader.specs.Step.{outcomeOf}
-use Rattle.reader.specs.declared.Answer.the-variants.{Block}
-use Rattle.reader.proofs.OutcomeLaws.{told}
+use Rattle.reading.specs.Step.{outcomeOf}
+use Rattle.reading.specs.declared.Answer.the-variants.{Block}
+use Rattle.reading.proofs.OutcomeLaws.{told}
 use Rattle.calls.specs.Sending.{sent}
 use Rattle.answers.specs.Answers.{readAnswerOf}
 use Rattle.answers.specs.declared.ReadAnswer.{ReadAnswer}

@@ -9,10 +9,10 @@ use native.Mathlib.Omega.{arith}
 use Rattle.slots.specs.Slots.{isItem}
 use Rattle.slots.specs.declared.Due.{Due}
 use Rattle.slots.specs.declared.Due.the-variants.{Plain, AnItem}
-use Rattle.control.specs.State.{wordDue, sounding}
+use Rattle.sender.specs.State.{wordDue, sounding}
 use Rattle.control.specs.Rules.{ruleOf}
 use Rattle.control.specs.Plans.{planBy}
-use Rattle.control.specs.declared.Sender.{Sender}
+use Rattle.sender.specs.declared.Sender.{Sender}
 use Rattle.control.specs.declared.Rule.{Rule}
 use Rattle.control.specs.declared.Rule.the-variants.{AsItem, MuteOff}
 use Rattle.promises.specs.Session.{Turn, Entry, after, log, entryOf}

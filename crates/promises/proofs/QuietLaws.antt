@@ -6,23 +6,23 @@ use Prim.Native.Nat.{ℕ, zero, suc}
 use native.Mathlib.Omega.{arith}
 use lib.ListN.{length, replicate}
 use Rattle.crc.specs.Crc.{blockCrcOf}
-use Rattle.modes.specs.Numbers.{following}
+use Rattle.numbers.specs.Numbers.{following}
 use Rattle.modes.specs.Modes.{audioOff, lsdOff, off, mode}
-use Rattle.modes.specs.declared.BlockNumber.{BlockNumber}
+use Rattle.numbers.specs.declared.BlockNumber.{BlockNumber}
 use Rattle.slots.specs.Slots.{dueAfter}
 use Rattle.codes.specs.Carried.{carried, senderCarries, openingOf}
 use Rattle.codes.specs.Commands.{commandOf, offered}
 use Rattle.slots.specs.declared.Due.the-variants.{Plain}
-use Rattle.control.specs.State.{wordDue, stateInRange}
+use Rattle.sender.specs.State.{wordDue, stateInRange}
 use Rattle.control.specs.Rules.{ruleOf}
 use Rattle.control.specs.Plans.{planBy}
 use Rattle.control.specs.Refusals.{clashes, rulingOf}
 use Rattle.control.specs.Decisions.{decisionOf}
-use Rattle.sender.specs.Step.{blockFor, outcomeOf}
-use Rattle.control.specs.declared.Sender.{Sender}
+use Rattle.sending.specs.Step.{blockFor, outcomeOf}
+use Rattle.sender.specs.declared.Sender.{Sender}
 use Rattle.control.specs.declared.Answer.the-variants.{Sent}
-use Rattle.sender.proofs.OutcomeLaws.{stays-in-range}
-use Rattle.track.specs.State.{freshIn}
+use Rattle.sending.proofs.OutcomeLaws.{stays-in-range}
+use Rattle.reader.specs.State.{freshIn}
 use Rattle.promises.specs.Session.{Turn, turned, after, log}
 use Rattle.promises.specs.Demand2.{InStep, EightBits, senderOn, readerOn}
 use Rattle.promises.proofs.JoinLaws.{fresh-waits, comes-into-step}

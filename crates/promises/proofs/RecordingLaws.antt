@@ -18,19 +18,19 @@ use Rattle.search.specs.Finding.{spells, aligned, badLength, searchOf}
 use Rattle.search.specs.declared.Found.the-variants.{Place}
 use Rattle.search.proofs.PlaceLaws.{spelled-bits, first-step, found-fits, found-smallest, none-fits}
 use Rattle.round.proofs.HeaderLaws.{alignment-back}
-use Rattle.control.specs.declared.Sender.{Sender}
+use Rattle.sender.specs.declared.Sender.{Sender}
 use Rattle.control.specs.declared.Rule.{Rule}
-use Rattle.track.specs.State.{known, stateInRange}
+use Rattle.reader.specs.State.{known, stateInRange}
 use Rattle.track.specs.Signs.{signsOf}
-use Rattle.reader.specs.Step as reading
+use Rattle.reading.specs.Step as reading
 use Rattle.track.specs.Step.{reportOf, stepOf}
-use Rattle.track.specs.declared.Reader.{Reader}
+use Rattle.reader.specs.declared.Reader.{Reader}
 use Rattle.track.specs.declared.Stepped as read
 use Rattle.track.specs.declared.Standing.the-variants.{Waiting, Read}
 use Rattle.track.specs.declared.Verdict.the-variants.{None}
-use Rattle.reader.specs.declared.Answer as heard
-use Rattle.slots.specs.declared.Reading.the-variants.{NotRead}
-use Rattle.reader.proofs.OutcomeLaws.{takes, taken-is}
+use Rattle.reading.specs.declared.Answer as heard
+use Rattle.words.specs.declared.Reading.the-variants.{NotRead}
+use Rattle.reading.proofs.OutcomeLaws.{takes, taken-is}
 use Rattle.track.proofs.RangeLaws.{step-in-range}
 use Rattle.recording.specs.Walk.{leftFrom, blockAt, isLost, buffersBy, steppedBy, answerAt, stepAt, lookAt, buffersAt}
 use Rattle.recording.specs.declared.Answer as walked

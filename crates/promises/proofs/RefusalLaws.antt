@@ -13,15 +13,15 @@ use Rattle.refusals.specs.declared.Ruling.{Ruling}
 use Rattle.refusals.specs.declared.Ruling.the-variants.{Refuse, Accept}
 use Rattle.refusals.proofs.RowLaws.{number-is}
 use Rattle.control.specs.Refusals as sender-list
-use Rattle.sender.specs.Step as sending
-use Rattle.sender.proofs.OutcomeLaws.{refused-is}
+use Rattle.sending.specs.Step as sending
+use Rattle.sending.proofs.OutcomeLaws.{refused-is}
 use Rattle.presets.specs.Presets.{readRows, readBy, presetRead, writtenRows, writtenBy, presetWritten, presetNumber, writtenNumber}
-use Rattle.control.specs.declared.Sender.{Sender}
+use Rattle.sender.specs.declared.Sender.{Sender}
 use Rattle.control.specs.declared.Call.{Call}
-use Rattle.track.specs.State as reader
-use Rattle.reader.specs.Refusals as reader-list
-use Rattle.reader.specs.Step as reading
-use Rattle.track.specs.declared.Reader.{Reader}
+use Rattle.reader.specs.State as reader
+use Rattle.reading.specs.Refusals as reader-list
+use Rattle.reading.specs.Step as reading
+use Rattle.reader.specs.declared.Reader.{Reader}
 use Rattle.search.specs.Finding as finding
 use Rattle.search.specs.declared.Found.{Found}
 use Rattle.recording.specs.Refusals as walk-list

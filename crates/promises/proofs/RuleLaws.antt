@@ -8,11 +8,11 @@ use Rattle.codes.specs.declared.Command.the-variants.{Neutral, SetAudio, SetLsd
 use Rattle.slots.specs.Slots.{isItem}
 use Rattle.slots.specs.declared.Due.{Due}
 use Rattle.slots.specs.declared.Due.the-variants.{Plain, AnItem}
-use Rattle.control.specs.State.{wordDue, sounding, choosing, chosenMode}
+use Rattle.sender.specs.State.{wordDue, sounding, choosing, chosenMode}
 use Rattle.control.specs.Rules.{ruleOf}
 use Rattle.control.specs.Plans.{planBy}
 use Rattle.control.specs.Refusals.{goesPlain, goesAsItem}
-use Rattle.control.specs.declared.Sender.{Sender}
+use Rattle.sender.specs.declared.Sender.{Sender}
 use Rattle.control.specs.declared.Call.{Call}
 use Rattle.control.specs.declared.Rule.{Rule}
 use Rattle.control.specs.declared.Rule.the-variants.{AsItem, MuteOff, Release, Offered}

@@ -5,18 +5,18 @@ use mathlib.Core.List.{List, [], _∷_}
 use Prim.Native.Nat.{ℕ}
 use borrow.Author.Tests.{eqb-true, not-false}
 use lib.ListN.{length}
-use Rattle.modes.specs.Table.{audioTable, audioPlaces, beside}
+use Rattle.table.specs.Table.{audioTable, audioPlaces, beside}
 use Rattle.modes.specs.Owners.{heldBy}
 use Rattle.modes.specs.Modes.{audioOff}
 use Rattle.modes.specs.declared.Mode.{Mode}
 use Rattle.places.specs.Layout.{layoutOf}
 use Rattle.frame.proofs.BlockLaws.{silent-muted, silent-off}
-use Rattle.control.specs.State.{sounding}
-use Rattle.sender.specs.Step.{headerFor, blockFor, stateBy, lineBy, decided, outcomeOf, lineOf, Told}
-use Rattle.control.specs.declared.Sender.{Sender}
+use Rattle.sender.specs.State.{sounding}
+use Rattle.sending.specs.Step.{headerFor, blockFor, stateBy, lineBy, decided, outcomeOf, lineOf, Told}
+use Rattle.sender.specs.declared.Sender.{Sender}
 use Rattle.control.specs.declared.Call.{Call}
 use Rattle.control.specs.declared.Decision.{Decision}
-use Rattle.sender.proofs.OutcomeLaws.{told}
+use Rattle.sending.proofs.OutcomeLaws.{told}
 use Rattle.buffers.specs.Buffers.{Buffers, lengths}
 use Rattle.buffers.proofs.LengthLaws.{same-each}
 use Rattle.promises.specs.Session.{Turn, Left, turned, after, run, Allowed}

@@ -7,8 +7,8 @@ use Rattle.crc.specs.Crc.{blockCrcOf}
 use Rattle.control.specs.Plans.{planBy}
 use Rattle.control.specs.Rules.{ruleOf}
 use Rattle.control.specs.Decisions.{nextBy, withRemainder, decisionOf}
-use Rattle.sender.specs.Step.{blockFor, ruled, outcomeOf, lineOf}
-use Rattle.control.specs.declared.Sender.{Sender}
+use Rattle.sending.specs.Step.{blockFor, ruled, outcomeOf, lineOf}
+use Rattle.sender.specs.declared.Sender.{Sender}
 use Rattle.control.specs.declared.Rule.{Rule}
 use Rattle.control.specs.declared.Rule.the-variants.{AsItem, MuteOff, Release, Offered}
 use Rattle.refusals.specs.declared.Refusal.{Refusal}

@@ -7,11 +7,12 @@ use native.Mathlib.Omega.{arith}
 use lib.Dec.{eqb, leb}
 use borrow.Author.Tests.{eqb-true, eqb-false, eq-eqb, ne-eqb, leb-false, lt-leb}
 use Rattle.bas.specs.declared.Word.the-variants.{Code}
-use Rattle.modes.specs.Table.{listedAudio}
+use Rattle.table.specs.Table.{listedAudio}
+use Rattle.table.proofs.TableLaws.{audio-small}
 use Rattle.modes.specs.Owners.{overlaps}
 use Rattle.modes.specs.Modes.{audioOff, withAudio, withLsd}
 use Rattle.modes.specs.declared.Mode.{Mode}
-use Rattle.modes.proofs.ModeLaws.{audio-small, overlaps-by, audio-off-apart, cleared-voice, cleared-lsd, off-ranged}
+use Rattle.modes.proofs.ModeLaws.{overlaps-by, audio-off-apart, cleared-voice, cleared-lsd, off-ranged}
 use Rattle.codes.specs.Codes.{attribute, value, written, audioAttribute}
 use Rattle.codes.specs.Carried.{carried, senderCarries, readerCarries, openingOf}
 use Rattle.codes.specs.Commands.{commandOf, offered, followed}
@@ -21,18 +22,18 @@ use Rattle.codes.specs.declared.Opening.{Opening}
 use Rattle.codes.specs.declared.Opening.the-variants.{Nothing, Item, Message}
 use Rattle.codes.proofs.CodeLaws.{audio-code, lsd-code}
 use Rattle.slots.specs.Slots.{dueBy, dueAfterNow, dueAfter, slotOf}
-use Rattle.slots.specs.Readings.{readingIn, obeyed}
+use Rattle.words.specs.Readings.{readingIn, obeyed}
 use Rattle.slots.specs.declared.Due.the-variants.{Plain, AnItem}
-use Rattle.slots.specs.declared.Reading.{Reading}
-use Rattle.slots.specs.declared.Reading.the-variants.{Mended}
-use Rattle.slots.proofs.SlotLaws.{item-no-command}
-use Rattle.control.specs.State.{chosenMode}
+use Rattle.words.specs.declared.Reading.{Reading}
+use Rattle.words.specs.declared.Reading.the-variants.{Mended}
+use Rattle.words.proofs.CommandLaws.{item-no-command}
+use Rattle.sender.specs.State.{chosenMode}
 use Rattle.control.specs.Plans.{planBy}
 use Rattle.control.specs.Refusals.{isAudio, isLsd, clashes, goesPlain, goesAsItem}
-use Rattle.control.specs.declared.Sender.{Sender}
+use Rattle.sender.specs.declared.Sender.{Sender}
 use Rattle.control.specs.declared.Rule.{Rule}
 use Rattle.control.specs.declared.Rule.the-variants.{AsItem, MuteOff, Release, Offered}
-use Rattle.control.proofs.RangeLaws.{Kept}
+use Rattle.sender.proofs.StateLaws.{Kept}
 use Rattle.promises.specs.Demand2.{commanded}
 use Rattle.bits.proofs.BoolLaws.{or-left-false, or-right-false}
 

@@ -10,22 +10,22 @@ use Rattle.codes.specs.Codes.{attribute}
 use Rattle.codes.specs.Carried.{senderCarries}
 use Rattle.refusals.specs.Numbers.{ranked}
 use Rattle.slots.specs.Slots.{isItem}
-use Rattle.control.specs.State.{wordDue, sounding, choosing}
-use Rattle.control.specs.State as sender
+use Rattle.sender.specs.State.{wordDue, sounding, choosing}
+use Rattle.sender.specs.State as sender
 use Rattle.control.specs.Refusals as sender-list
-use Rattle.sender.specs.Step as sending
+use Rattle.sending.specs.Step as sending
 use Rattle.presets.specs.Presets.{isPreset, presetRead, presetWritten, presetNumber, writtenNumber}
-use Rattle.control.specs.declared.Sender.{Sender}
+use Rattle.sender.specs.declared.Sender.{Sender}
 use Rattle.control.specs.declared.Call.{Call}
-use Rattle.sender.specs.declared.Outcome as sent
+use Rattle.sending.specs.declared.Outcome as sent
 use Rattle.presets.specs.declared.PresetRead.{PresetRead}
 use Rattle.presets.specs.declared.PresetWritten.{PresetWritten}
 use Rattle.buffers.specs.Buffers.{Buffers}
-use Rattle.track.specs.State as reader
-use Rattle.reader.specs.Refusals as reader-list
-use Rattle.reader.specs.Step as reading
-use Rattle.track.specs.declared.Reader.{Reader}
-use Rattle.reader.specs.declared.Outcome as read
+use Rattle.reader.specs.State as reader
+use Rattle.reading.specs.Refusals as reader-list
+use Rattle.reading.specs.Step as reading
+use Rattle.reader.specs.declared.Reader.{Reader}
+use Rattle.reading.specs.declared.Outcome as read
 use Rattle.search.specs.Finding as finding
 use Rattle.search.specs.declared.Found.{Found}
 use Rattle.recording.specs.Refusals as walk-list
@@ -52,7 +52,7 @@ pub record Refuses (n : ℕ) (rows : List Row) (untouched : Type 0) : Type 0 whe
   pub exact : n ≡ first rows
   pub kept : (n ≡ 0 → ⊥) → untouched
 
--- ---- `sender::send`: rows 1 to 8
+-- ---- `sending::send`: rows 1 to 8
 -- the offered code is held: no item is due, and mute's "audio off" or the chosen command goes
 abbrev pub held : Sender → Call → Bool
 held s c = not (isItem (wordDue s)) && (c .mute && sounding s || not (c .mute) && not (sounding s) && choosing s)
@@ -78,7 +78,7 @@ Sending = (s : Sender) (c : Call) (b : Buffers) (line : List ℕ) (r : sent.Outc
     → sending.Told s c b line r l
     → Refuses (sender-list.numberIn (r .answer)) (sendingRows s c b line) ((r .state ≡ s) × (l ≡ line))
 
--- ---- `reader::read`: rows 1 to 4
+-- ---- `reading::read`: rows 1 to 4
 abbrev pub readingRows : Reader → List ℕ → Buffers → List Row
 readingRows s line b =
     row 1 (not (reader.stateInRange s))

@@ -4,7 +4,7 @@
 use mathlib.Core.Path.{_≡_}
 use mathlib.Core.Bool.{Bool, true, false, cond}
 use mathlib.Core.List.{List, [], _∷_}
-use Prim.Native.Nat.{ℕ, zero, suc, _-_, _*_, _%_, _^_, _<_, _≤_}
+use Prim.Native.Nat.{ℕ, zero, suc, _-_, _%_, _^_, _<_, _≤_}
 use lib.Dec.{eqb}
 use lib.ListN.{length, take, drop, replicate}
 use lib.Bits.{bitXor}
@@ -15,8 +15,8 @@ use Rattle.bas.specs.Reading.{weight, readingOf}
 use Rattle.bas.specs.declared.Word.the-variants.{Code}
 use Rattle.buffers.specs.Buffers.{Buffers, each, lengths}
 use Rattle.buffers.specs.Lengths.{streamOctets}
-use Rattle.modes.specs.Numbers.{following}
-use Rattle.modes.specs.Owners.{heldBy, bitsPerFrame}
+use Rattle.numbers.specs.Numbers.{following}
+use Rattle.modes.specs.Owners.{counting}
 use Rattle.modes.specs.Modes.{audioOff, off, mode}
 use Rattle.modes.specs.declared.Mode.{Mode}
 use Rattle.modes.specs.declared.Owner.{Owner}
@@ -26,24 +26,24 @@ use Rattle.codes.specs.Commands.{commandOf, offered}
 use Rattle.codes.specs.declared.Command.{Command}
 use Rattle.codes.specs.declared.Command.the-variants.{Neutral, SetAudio, SetLsd, NoEffect}
 use Rattle.slots.specs.Slots.{dueNow, dueAfter, slotOf, dueOf}
-use Rattle.slots.specs.Readings.{readingIn}
+use Rattle.words.specs.Readings.{readingIn}
 use Rattle.slots.specs.declared.Due.{Due}
 use Rattle.slots.specs.declared.Due.the-variants.{Plain, AnItem, N, Words}
 use Rattle.frame.specs.Block.{blockOf}
-use Rattle.control.specs.State as sending
-use Rattle.control.specs.State.{wordDue}
-use Rattle.sender.specs.Step.{headerFor}
-use Rattle.control.specs.declared.Sender.{Sender}
+use Rattle.sender.specs.State as sending
+use Rattle.sender.specs.State.{wordDue}
+use Rattle.sending.specs.Step.{headerFor}
+use Rattle.sender.specs.declared.Sender.{Sender}
 use Rattle.control.specs.declared.Answer.{Answer}
 use Rattle.control.specs.declared.Answer.the-variants.{Sent, Held, Refused}
-use Rattle.track.specs.State.{unknown, known, stateInRange, freshIn}
+use Rattle.reader.specs.State.{unknown, known, stateInRange, freshIn}
 use Rattle.track.specs.Signs.{signsOf}
 use Rattle.track.specs.Step.{stepOf}
-use Rattle.reader.specs.Step as reading
-use Rattle.track.specs.declared.Reader.{Reader}
+use Rattle.reading.specs.Step as reading
+use Rattle.reader.specs.declared.Reader.{Reader}
 use Rattle.track.specs.declared.Report.{Report}
-use Rattle.reader.specs.declared.Outcome.{Outcome}
-use Rattle.reader.specs.declared.Answer.the-variants.{Block}
+use Rattle.reading.specs.declared.Outcome.{Outcome}
+use Rattle.reading.specs.declared.Answer.the-variants.{Block}
 use Rattle.track.specs.declared.Standing.the-variants.{Read}
 use Rattle.track.specs.declared.Verdict.the-variants.{None, Good}
 use Rattle.promises.specs.Demand1.{held, plain}
@@ -142,10 +142,6 @@ pub record Agrees (s : Sender) (r : Reader) : Type 0 where
 -- ---- what a reader in step hands back of a block that arrives unharmed
 abbrev pub readerAfter : Reader → Entry → Reader
 readerAfter r e = (stepOf r (signsOf (blockSent e))) .state
-
--- how many bits of a stream's buffer count: twice its bits per frame
-abbrev pub counting : Owner → Mode → ℕ
-counting o m = 2 * bitsPerFrame (heldBy m o)
 
 -- what a stream hands back: each voice bit of an open block, and ones for a muted one; each data bit
 abbrev pub streamBits : Owner → Entry → List Bool

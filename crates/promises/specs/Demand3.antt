@@ -7,15 +7,15 @@ use Prim.Native.Nat.{ℕ, zero, suc}
 use lib.ListN.{length}
 use Rattle.modes.specs.Modes.{audioOff}
 use Rattle.codes.specs.Codes.{written, audioAttribute}
-use Rattle.control.specs.State.{wordDue, sounding}
-use Rattle.sender.specs.Step.{blockFor}
-use Rattle.control.specs.declared.Sender.{Sender}
+use Rattle.sender.specs.State.{wordDue, sounding}
+use Rattle.sending.specs.Step.{blockFor}
+use Rattle.sender.specs.declared.Sender.{Sender}
 use Rattle.control.specs.declared.Call.{Call}
 use Rattle.control.specs.declared.Answer.the-variants.{Held}
 use Rattle.slots.specs.declared.Due.the-variants.{Plain}
-use Rattle.slots.specs.declared.Reading.the-variants.{Mended}
-use Rattle.track.specs.declared.Reader.{Reader}
-use Rattle.reader.specs.declared.Outcome.{Outcome}
+use Rattle.words.specs.declared.Reading.the-variants.{Mended}
+use Rattle.reader.specs.declared.Reader.{Reader}
+use Rattle.reading.specs.declared.Outcome.{Outcome}
 use Rattle.buffers.specs.Buffers.{Buffers}
 use Rattle.promises.specs.Demand2.{answerTo, InStep, readerAfter, HandedBack, EightBits}
 use Rattle.promises.specs.Session.{Turn, Left, turned, after, Allowed, Entry, log}

@@ -10,15 +10,15 @@ use denote.Ref.{now}
 use Rattle.text.specs.Over.{Written}
 use Rattle.search.specs.Finding.{searchOf}
 use Rattle.search.specs.declared.Found.the-variants.{Place}
-use Rattle.control.specs.State as sender
+use Rattle.sender.specs.State as sender
 use Rattle.presets.specs.Presets.{isPreset}
-use Rattle.control.specs.declared.Sender.{Sender}
+use Rattle.sender.specs.declared.Sender.{Sender}
 use Rattle.control.specs.declared.Call.{Call}
-use Rattle.track.specs.State as reader
-use Rattle.reader.specs.Refusals as reader-list
-use Rattle.reader.specs.Step as reading
-use Rattle.track.specs.declared.Reader.{Reader}
-use Rattle.reader.specs.declared.Outcome as read
+use Rattle.reader.specs.State as reader
+use Rattle.reading.specs.Refusals as reader-list
+use Rattle.reading.specs.Step as reading
+use Rattle.reader.specs.declared.Reader.{Reader}
+use Rattle.reading.specs.declared.Outcome as read
 use Rattle.recording.specs.Refusals as walk-list
 use Rattle.recording.specs.Walk.{stepAt, lookAt, buffersAt}
 use Rattle.recording.specs.declared.Stepped.{Stepped}
@@ -33,16 +33,16 @@ use Rattle.answers.specs.declared.SendAnswer.{SendAnswer}
 use Rattle.answers.specs.declared.ReadAnswer.{ReadAnswer}
 use Rattle.answers.specs.declared.SearchAnswer.{SearchAnswer}
 use Rattle.answers.specs.declared.StepAnswer.{StepAnswer}
-use Rattle.answers.specs.declared.PresetAnswer.{PresetAnswer}
-use Rattle.answers.specs.declared.PresetBits.{PresetBits}
+use Rattle.presetting.specs.declared.PresetAnswer.{PresetAnswer}
+use Rattle.presetting.specs.declared.PresetBits.{PresetBits}
 use Rattle.calls.specs.Sending.{callOf, SendTold}
 use Rattle.calls.specs.Reading.{ReadTold}
 use Rattle.calls.specs.Walking.{StepTold}
-use Rattle.calls.specs.Presets.{PresetTold, presetGiven}
-use Rattle.saving.specs.declared.WalkState.{WalkState}
+use Rattle.presetting.specs.Presetting.{PresetTold, presetGiven}
+use Rattle.keeping.specs.declared.WalkState.{WalkState}
 use Rattle.promises.specs.Demand1.{Row, row, first, Refuses, held, sendingRows, readingRows, searchingRows, steppingRows}
 
--- ---- `reader::look`: rows 1 and 2, for it is lent no buffers
+-- ---- `reading::look`: rows 1 and 2, for it is lent no buffers
 abbrev pub lookingRows : Reader → List ℕ → List Row
 lookingRows s line = row 1 (not (reader.stateInRange s)) ∷ row 2 (not (eqb (length line) 160)) ∷ []
 

@@ -10,8 +10,8 @@ use Rattle.bas.specs.Words.{checkOf, wordBits, lineOrder}
 use Rattle.modes.specs.Modes.{audioOff, mode}
 use Rattle.codes.specs.Codes.{written, audioAttribute}
 use Rattle.control.specs.Refusals.{numberIn}
-use Rattle.sender.specs.Step.{outcomeOf}
-use Rattle.control.specs.declared.Sender.{Sender}
+use Rattle.sending.specs.Step.{outcomeOf}
+use Rattle.sender.specs.declared.Sender.{Sender}
 use Rattle.control.specs.declared.Call.{Call}
 use Rattle.buffers.specs.Buffers.{each}
 use Rattle.buffers.specs.Lengths.{lineOctets, streamOctets}

@@ -1,14 +1,14 @@
--- Demands 2 and 3 at the boundary. What `delampuk_send` leaves of calls over one lent state is what a session of `sender::send` leaves, in
+-- Demands 2 and 3 at the boundary. What `delampuk_send` leaves of calls over one lent state is what a session of `sending::send` leaves, in
 -- the numbers that cross to C; and what `delampuk_read` gives of a block is what a reader in step hands back, in these numbers.
 use mathlib.Core.Path.{_≡_}
 use mathlib.Core.List.{List, [], _∷_, map}
 use Prim.Native.Nat.{ℕ}
 use Rattle.bas.specs.declared.Word.the-variants.{Code}
-use Rattle.slots.specs.Readings.{readingIn, readingKind, readingCode}
-use Rattle.control.specs.State.{wordDue}
-use Rattle.control.specs.declared.Sender.{Sender}
+use Rattle.words.specs.Readings.{readingIn, readingKind, readingCode}
+use Rattle.sender.specs.State.{wordDue}
+use Rattle.sender.specs.declared.Sender.{Sender}
 use Rattle.track.specs.Parts.{standingNumber, verdictNumber}
-use Rattle.track.specs.declared.Reader.{Reader}
+use Rattle.reader.specs.declared.Reader.{Reader}
 use Rattle.track.specs.declared.Standing.the-variants.{Read}
 use Rattle.track.specs.declared.Verdict.the-variants.{None, Good}
 use Rattle.answers.specs.Answers.{sendAnswerOf}

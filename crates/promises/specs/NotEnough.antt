@@ -7,8 +7,8 @@ use lib.ListN.{drop}
 use Rattle.search.specs.Finding.{searchOf}
 use Rattle.search.specs.declared.Found.{Found}
 use Rattle.search.specs.declared.Found.the-variants.{Place}
-use Rattle.sender.specs.Step.{Told}
-use Rattle.control.specs.declared.Sender.{Sender}
+use Rattle.sending.specs.Step.{Told}
+use Rattle.sender.specs.declared.Sender.{Sender}
 use Rattle.promises.specs.Session.{Turn, Left, accepted}
 use Rattle.promises.specs.Recordings.{Aligned}
 

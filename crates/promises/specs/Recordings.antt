@@ -9,16 +9,16 @@ use Rattle.bits.specs.Bits.{scBit}
 use Rattle.search.specs.Finding.{searchOf}
 use Rattle.search.specs.declared.Found.the-variants.{Place, Refused}
 use Rattle.refusals.specs.declared.Refusal.the-variants.{NoPlace}
-use Rattle.control.specs.State as sending
+use Rattle.sender.specs.State as sending
 use Rattle.slots.specs.declared.Due.the-variants.{Plain}
-use Rattle.control.specs.State.{wordDue}
-use Rattle.control.specs.declared.Sender.{Sender}
-use Rattle.track.specs.State.{stateInRange}
-use Rattle.reader.specs.Step as reading
-use Rattle.track.specs.declared.Reader.{Reader}
+use Rattle.sender.specs.State.{wordDue}
+use Rattle.sender.specs.declared.Sender.{Sender}
+use Rattle.reader.specs.State.{stateInRange}
+use Rattle.reading.specs.Step as reading
+use Rattle.reader.specs.declared.Reader.{Reader}
 use Rattle.track.specs.declared.Report.{Report}
-use Rattle.reader.specs.declared.Answer as read
-use Rattle.reader.specs.declared.Outcome.{Outcome}
+use Rattle.reading.specs.declared.Answer as read
+use Rattle.reading.specs.declared.Outcome.{Outcome}
 use Rattle.buffers.specs.Buffers.{Buffers, lengths}
 use Rattle.buffers.specs.Lengths.{lineOctets, streamOctets}
 use Rattle.recording.specs.Walk.{stepAt, lookAt, buffersAt}

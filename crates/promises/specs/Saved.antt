@@ -5,13 +5,14 @@ use mathlib.Core.Path.{_≡_}
 use mathlib.Core.List.{List, [], _∷_}
 use Prim.Native.Nat.{ℕ, _+_, _*_, _<_, _^_}
 use lib.ListN.{length, replicate}
-use Rattle.control.specs.declared.Sender.{Sender}
-use Rattle.track.specs.declared.Reader.{Reader}
-use Rattle.saving.specs.declared.WalkState.{WalkState}
-use Rattle.saving.specs.Saved.{senderSaved, senderKept, senderLoaded, readerSaved, readerKept, readerLoaded, walkSaved, walkKept, walkLoaded}
+use Rattle.sender.specs.declared.Sender.{Sender}
+use Rattle.reader.specs.declared.Reader.{Reader}
+use Rattle.keeping.specs.declared.WalkState.{WalkState}
+use Rattle.saving.specs.Saved.{senderSaved, senderKept, senderLoaded, readerSaved, readerKept, readerLoaded}
+use Rattle.keeping.specs.SavedWalk.{walkSaved, walkKept, walkLoaded}
 use Rattle.saving.specs.declared.SenderLoad.{SenderLoad}
 use Rattle.saving.specs.declared.ReaderLoad.{ReaderLoad}
-use Rattle.saving.specs.declared.WalkLoad.{WalkLoad}
+use Rattle.keeping.specs.declared.WalkLoad.{WalkLoad}
 
 -- of states S: `octets` is the form's length, `answer` and `after` are what saving answers and leaves in the buffer, `load` is what loading leaves,
 -- and `told s n` is the state s with the answer n. Said of the states that the library itself leaves, `whole`

@@ -3,12 +3,12 @@ use mathlib.Core.Bool.{Bool, true, false}
 use mathlib.Core.List.{List, [], _∷_}
 use Prim.Native.Nat.{ℕ}
 use Rattle.buffers.specs.Buffers.{Buffers}
-use Rattle.sender.specs.Step.{outcomeOf, lineOf, Told}
-use Rattle.control.specs.declared.Sender.{Sender}
+use Rattle.sending.specs.Step.{outcomeOf, lineOf, Told}
+use Rattle.sender.specs.declared.Sender.{Sender}
 use Rattle.control.specs.declared.Call.{Call}
 use Rattle.control.specs.declared.Answer.{Answer}
 use Rattle.control.specs.declared.Answer.the-variants.{Sent, Held, Refused}
-use Rattle.sender.specs.declared.Outcome.{Outcome}
+use Rattle.sending.specs.declared.Outcome.{Outcome}
 
 -- a call with what it is lent: the streams' buffers, and the line block as it stood
 pub record Turn : Type 0 where
@@ -34,7 +34,7 @@ abbrev pub run : Sender → List Turn → List Left
 run s [] = []
 run s (x ∷ xs) = turned s x ∷ run (after s x) xs
 
--- a session that the contract of `sender::send` allows: each call leaves what its contract says, and the next one finds the state left
+-- a session that the contract of `sending::send` allows: each call leaves what its contract says, and the next one finds the state left
 abbrev pub Allowed : Sender → List Turn → List Left → Type 0
 Allowed s [] [] = Unit {0}
 Allowed s [] (l ∷ ls) = ⊥

@@ -1,102 +1,73 @@
-// The reader's step: state and block in; the next state and the answer out; voice and data handed out into the lent buffers (document
-// 01, 'Reading a block' and 'Refusal numbers').
+// What a reader keeps between blocks, when that is in range, and the state that it starts in (document 01, 'Reading a block').
 ghost use mathlib.Core.Path.{_≡_};
-ghost use mathlib.Core.Bool.{true};
-ghost use lib.ListN.{length};
-ghost use Rattle.buffers.specs.Buffers.{each, lengths};
-ghost use Rattle.buffers.specs.Lengths.{fitting};
-ghost use Rattle.reader.specs.Refusals.{rulingOf};
-ghost use Rattle.reader.specs.Step.{handedBy, lookOf, Told};
+ghost use mathlib.Core.Bool.{_&&_};
+ghost use Rattle.modes.specs.Modes.{off, inRange};
+ghost use Rattle.reader.specs.State.{stateInRange, freshIn};
 use modes::Mode;
-use refusals::Refusal;
-use refusals::Ruling;
-use track::Reader;
-use track::Report;
-use track::Standing;
+use numbers::BlockNumber;
+use slots::Slot;
 
-pub enum Answer {
-    Block(Report),
-    Refused(Refusal),
+// What a reader keeps between blocks: the mode in force; the mode before the first of a run of wrong alignment words, and that run; the
+// number of the next block, 0 while it is unknown; the odd-frame first bits since alignment, of which the last six count, as a number;
+// the run of wrong patterns; what is due; whether there is a block before, and its remainder (DECISIONS F19). Laid out as in C for a card
+// driver.
+#[repr(C)]
+pub struct Reader {
+    pub mode: Mode,
+    pub kept: Mode,
+    pub wrong: u8,
+    pub block: BlockNumber,
+    pub firsts: u8,
+    pub misses: u8,
+    pub slot: Slot,
+    pub before: u8,
+    pub remainder: u8,
 }
 
-// A struct and not an enum, since the state is to hold more than an enum may.
-pub struct Outcome {
-    pub state: Reader,
-    pub answer: Answer,
-}
-
-// The rows of a call with a block and buffers of these lengths, in their order.
-fn ruling_of(s: Reader, line: usize, voice: usize, lsd: usize) -> Ruling
-    ensures { λ r. ⌜ r ≡ rulingOf s line (each voice lsd) ⌝ }
+// Whether both modes of a state are in range. They are mostly one, which is then judged once.
+fn modes_in_range(mode: Mode, kept: Mode) -> bool
+    ensures { λ r. ⌜ r ≡ (inRange mode && inRange kept) ⌝ }
 {
-    let one = refusals::judge(Ruling::Accept, Refusal::BadState, !track::in_range(s));
-    let two = buffers::judge_line(one, line);
-    buffers::judge_streams(two, voice, lsd)
+    let first = modes::in_range(mode);
+    if modes::same(kept, mode) {
+        return first;
+    }
+    first & modes::in_range(kept)
 }
 
-// Voice and data by the mode where the block is read, and zeros where it is not.
-fn hand(standing: Standing, mode: Mode, line: &[u8], voice: &mut [u8], lsd: &mut [u8])
-    requires { ⌜ fitting (length (now line)) (lengths (each (now voice) (now lsd))) ≡ true ⌝ }
-    ensures { λ _. ⌜ each (now (voice .exit)) (now (lsd .exit)) ≡ handedBy standing mode (now (line .entry)) ⌝ }
+// Whether a state is in range.
+pub fn in_range(s: Reader) -> bool
+    ensures { λ r. ⌜ r ≡ stateInRange s ⌝ }
 {
-    match standing {
-        Standing::Waiting => {
-            packing::clear(voice);
-            packing::clear(lsd);
-        }
-        Standing::Read => {
-            sorter::hand_out(line, mode, voice, lsd);
-        }
-        Standing::Lost => {
-            packing::clear(voice);
-            packing::clear(lsd);
-        }
+    let wrong = s.wrong;
+    let misses = s.misses;
+    let remainder = s.remainder;
+    let block = s.block.0;
+    modes_in_range(s.mode, s.kept) & (wrong <= 2) & (misses <= 2) & (remainder <= 15) & (block <= 8)
+}
+
+// The state that a reader starts in, but for the mode.
+pub fn fresh_in(mode: Mode) -> Reader
+    ensures { λ r. ⌜ r ≡ freshIn mode ⌝ }
+{
+    let block = BlockNumber(0);
+    let slot = Slot { kind: 0, words: 0 };
+    Reader {
+        mode: mode,
+        kept: mode,
+        wrong: 0,
+        block: block,
+        firsts: 63,
+        misses: 0,
+        slot: slot,
+        before: 0,
+        remainder: 0,
     }
 }
 
-// One block: its voice and data go into the lent buffers, or the call is refused and changes nothing.
-pub fn read(state: Reader, line: &[u8], voice: &mut [u8], lsd: &mut [u8]) -> Outcome
-    ensures { λ r. ⌜ Told state (now (line .entry)) (each (now (voice .entry)) (now (lsd .entry))) r (each (now (voice .exit)) (now (lsd .exit))) ⌝ }
+// The state that a reader starts in.
+pub fn fresh() -> Reader
+    ensures { λ r. ⌜ r ≡ freshIn off ⌝ }
 {
-    let mode = state.mode;
-    let ruling = ruling_of(state, line.len(), voice.len(), lsd.len());
-    match ruling {
-        Ruling::Refuse(why) => Outcome {
-            state: state,
-            answer: Answer::Refused(why),
-        },
-        Ruling::Accept => {
-            let stepped = track::step(state, line);
-            let next = stepped.state;
-            let report = stepped.report;
-            let standing = report.standing;
-            hand(standing, mode, line, voice, lsd);
-            Outcome {
-                state: next,
-                answer: Answer::Block(report),
-            }
-        }
-    }
-}
-
-// One block without its streams: the state and the answer of a call whose buffers fit.
-pub fn look(state: Reader, line: &[u8]) -> Outcome
-    ensures { λ r. ⌜ r ≡ lookOf state (now (line .entry)) ⌝ }
-{
-    let ruling = ruling_of(state, line.len(), buffers::VOICE, buffers::LSD);
-    match ruling {
-        Ruling::Refuse(why) => Outcome {
-            state: state,
-            answer: Answer::Refused(why),
-        },
-        Ruling::Accept => {
-            let stepped = track::step(state, line);
-            let next = stepped.state;
-            let report = stepped.report;
-            Outcome {
-                state: next,
-                answer: Answer::Block(report),
-            }
-        }
-    }
+    fresh_in(modes::off())
 }

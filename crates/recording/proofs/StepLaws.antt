@@ -16,12 +16,12 @@ use Rattle.refusals.proofs.RowLaws.{none-given}
 use Rattle.buffers.specs.Buffers.{Each, Buffers, lengths}
 use Rattle.buffers.specs.Lengths.{lineOctets, streamOctets}
 use Rattle.buffers.proofs.LengthLaws.{streams-fit}
-use Rattle.track.specs.State.{stateInRange}
-use Rattle.track.specs.declared.Reader.{Reader}
+use Rattle.reader.specs.State.{stateInRange}
+use Rattle.reader.specs.declared.Reader.{Reader}
 use Rattle.track.proofs.RangeLaws.{step-in-range}
-use Rattle.reader.specs.Step as reading
-use Rattle.reader.specs.declared.Outcome.{Outcome}
-use Rattle.reader.specs.Refusals as judged
+use Rattle.reading.specs.Step as reading
+use Rattle.reading.specs.declared.Outcome.{Outcome}
+use Rattle.reading.specs.Refusals as judged
 use Rattle.search.specs.Finding.{searchOf}
 use Rattle.search.specs.declared.Found.{Found}
 use Rattle.search.proofs.PlaceLaws.{found-fits}

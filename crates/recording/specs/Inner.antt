@@ -7,9 +7,9 @@ use lib.Dec.{ltb}
 use lib.ListN.{length}
 use Rattle.buffers.specs.Buffers.{Each}
 use Rattle.buffers.specs.Lengths.{lineOctets}
-use Rattle.track.specs.declared.Reader.{Reader}
-use Rattle.reader.specs.declared.Outcome as told
-use Rattle.reader.specs.declared.Answer as heard
+use Rattle.reader.specs.declared.Reader.{Reader}
+use Rattle.reading.specs.declared.Outcome as told
+use Rattle.reading.specs.declared.Answer as heard
 use Rattle.recording.specs.Refusals.{rulingOf}
 use Rattle.recording.specs.Walk.{answerBy, isLost, steppedBy}
 use Rattle.recording.specs.declared.Answer.the-variants.{Block, Refused}

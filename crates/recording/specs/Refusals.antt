@@ -9,8 +9,8 @@ use Rattle.refusals.specs.declared.Refusal.the-variants.{BadState, BadRecording
 use Rattle.refusals.specs.declared.Ruling.{Ruling}
 use Rattle.buffers.specs.Buffers.{Each}
 use Rattle.buffers.specs.Lengths.{streamRows}
-use Rattle.track.specs.State.{stateInRange}
-use Rattle.track.specs.declared.Reader.{Reader}
+use Rattle.reader.specs.State.{stateInRange}
+use Rattle.reader.specs.declared.Reader.{Reader}
 use Rattle.recording.specs.declared.Answer.{Answer}
 use Rattle.recording.specs.declared.Answer.the-variants.{Block, Place, End, Refused}
 

@@ -10,12 +10,12 @@ use Rattle.buffers.specs.Buffers.{Buffers, lengths}
 use Rattle.buffers.specs.Lengths.{lineOctets, streamOctets}
 use Rattle.track.specs.Signs.{signsOf}
 use Rattle.track.specs.Step as tracking
-use Rattle.track.specs.declared.Reader.{Reader}
+use Rattle.reader.specs.declared.Reader.{Reader}
 use Rattle.track.specs.declared.Report.{Report}
 use Rattle.track.specs.declared.Stepped as tracked
 use Rattle.track.specs.declared.Standing.{Standing}
 use Rattle.track.specs.declared.Standing.the-variants.{Waiting, Read, Lost}
-use Rattle.reader.specs.Step.{handedBy}
+use Rattle.reading.specs.Step.{handedBy}
 use Rattle.search.specs.Finding.{searchOf}
 use Rattle.search.specs.declared.Found.{Found}
 use Rattle.recording.specs.Refusals.{rulingOf}

@@ -8,10 +8,10 @@ ghost use Rattle.search.specs.Finding.{searchOf};
 ghost use Rattle.recording.specs.Refusals.{rulingOf};
 ghost use Rattle.recording.specs.Walk.{leftFrom, foundAgain, isLost, answerHere, steppedBy, stepAt, buffersAt, lookAt};
 ghost use Rattle.recording.specs.Inner.{offBlock, meetsNone, movedBy, ruledAt};
+use reader::Reader;
 use refusals::Refusal;
 use refusals::Ruling;
 use search::Found;
-use track::Reader;
 use track::Report;
 
 // A block as the reader answers it, the place where alignment was found again, or the end and the octets left.
@@ -34,7 +34,7 @@ pub struct Stepped {
 fn ruling_of(all: usize, place: usize, s: Reader, voice: usize, lsd: usize) -> Ruling
     ensures { λ r. ⌜ r ≡ rulingOf all place s (each voice lsd) ⌝ }
 {
-    let one = refusals::judge(Ruling::Accept, Refusal::BadState, !track::in_range(s));
+    let one = refusals::judge(Ruling::Accept, Refusal::BadState, !reader::in_range(s));
     let four = buffers::judge_streams(one, voice, lsd);
     refusals::judge(four, Refusal::BadRecording, (65_536 < all) | (all < place))
 }
@@ -51,20 +51,20 @@ fn is_lost(report: Report) -> bool
 }
 
 // The walk after the reader's answer to the block at its place: at the block's end, or where it was if the reader refused.
-fn moved_on(outcome: reader::Outcome, place: usize, lost: bool) -> Stepped
+fn moved_on(outcome: reading::Outcome, place: usize, lost: bool) -> Stepped
     requires { ⌜ place ≤ 65536 ⌝ }
     ensures { λ r. ⌜ r ≡ movedBy outcome place lost ⌝ }
 {
     let next = outcome.state;
     let answer = outcome.answer;
     match answer {
-        reader::Answer::Block(report) => Stepped {
+        reading::Answer::Block(report) => Stepped {
             answer: Answer::Block(report),
             reader: next,
             place: place + buffers::LINE,
             lost: is_lost(report),
         },
-        reader::Answer::Refused(why) => Stepped {
+        reading::Answer::Refused(why) => Stepped {
             answer: Answer::Refused(why),
             reader: next,
             place: place,
@@ -162,7 +162,7 @@ pub fn step(
         return off_by_ruling(recording, place, lost, s, voice.len(), lsd.len());
     }
     let end = place + buffers::LINE;
-    let outcome = reader::read(s, &recording[place..end], voice, lsd);
+    let outcome = reading::read(s, &recording[place..end], voice, lsd);
     moved_on(outcome, place, lost)
 }
 
@@ -174,6 +174,6 @@ pub fn look(recording: &[u8], place: usize, lost: bool, s: Reader) -> Stepped
         return off_by_ruling(recording, place, lost, s, buffers::VOICE, buffers::LSD);
     }
     let end = place + buffers::LINE;
-    let outcome = reader::look(s, &recording[place..end]);
+    let outcome = reading::look(s, &recording[place..end]);
     moved_on(outcome, place, lost)
 }

@@ -5,16 +5,16 @@ ghost use lib.ListN.{length};
 use libc::STDERR_FILENO;
 use libc::STDIN_FILENO;
 use libc::STDOUT_FILENO;
-use modes::BlockNumber;
 use modes::Mode;
-use reader::Answer;
-use reader::Outcome;
-use slots::Reading;
+use numbers::BlockNumber;
+use reader::Reader;
+use reading::Answer;
+use reading::Outcome;
 use slots::Slot;
-use track::Reader;
 use track::Report;
 use track::Standing;
 use track::Verdict;
+use words::Reading;
 
 // The refused calls. The bits of a call: 1 a short line, 2 short voice, 4 short data, 8 a forged state. With several things wrong the
 // smallest number answers.
@@ -177,7 +177,7 @@ fn print_state(s: Reader) {
 fn block_read(given: Reader, k: u64, line: &[u8; buffers::LINE]) -> Reader {
     let mut voice = [0u8; buffers::VOICE];
     let mut lsd = [0u8; buffers::LSD];
-    let outcome = reader::read(given, line, &mut voice, &mut lsd);
+    let outcome = reading::read(given, line, &mut voice, &mut lsd);
     let answer = outcome.answer;
     let next = outcome.state;
     decimal(k);
@@ -209,7 +209,7 @@ fn next_block(given: Reader, k: u64) -> Turn {
 
 // Hands every block to one reader, also after a loss: nothing is searched for. Whether all of the blocks were there.
 fn blocks_read(blocks: u8) -> bool {
-    let mut state = track::fresh();
+    let mut state = reader::fresh();
     for k in 0..blocks {
         let turn = next_block(state, k as u64 + 1);
         if !turn.whole {
@@ -286,7 +286,7 @@ fn end(length: usize, call: u8, bit: u8) -> usize
 
 // A fresh state, or one with a block numbered 9, which no reader reaches.
 fn given_to(call: u8) -> Reader {
-    let s = track::fresh();
+    let s = reader::fresh();
     let mode = s.mode;
     let kept = s.kept;
     let slot = s.slot;
@@ -349,7 +349,7 @@ fn lent(given: Reader, call: u8, line: &[u8], voice: &mut [u8], lsd: &mut [u8]) 
     let line_end = end(line.len(), call, 0);
     let voice_end = end(voice.len(), call, 1);
     let lsd_end = end(lsd.len(), call, 2);
-    reader::read(
+    reading::read(
         given,
         &line[..line_end],
         &mut voice[..voice_end],

@@ -15,7 +15,7 @@ use Rattle.bits.proofs.PackLaws.{length-octets}
 use Rattle.bits.proofs.BoolLaws.{below}
 use Rattle.bas.specs.Words.{wordBits, lineOrder}
 use Rattle.bas.proofs.WordLaws.{length-line}
-use Rattle.modes.specs.Numbers.{evenFrame, oddFrame}
+use Rattle.numbers.specs.Numbers.{evenFrame, oddFrame}
 use Rattle.modes.specs.declared.Mode.{Mode}
 use Rattle.places.specs.Streams.{Streams, rest}
 use Rattle.service.specs.Service.{serviceRows}
@@ -26,8 +26,8 @@ use Rattle.places.specs.Layout.{layoutOf, channelBy, columnsBy, rowsBy, sc, Apa
 use Rattle.frame.specs.Frame.{frameBy}
 use Rattle.places.specs.declared.Layout.{Layout}
 use Rattle.frame.specs.declared.Header.{Header}
-use Rattle.places.proofs.LayoutLaws.{apart-of}
-use Rattle.frame.proofs.OctetLaws.{octet-at, channel-next, channel-service}
+use Rattle.places.proofs.LayoutLaws.{apart-of, channel-service}
+use Rattle.frame.proofs.OctetLaws.{octet-at, channel-next}
 use Rattle.frame.proofs.WrittenLaws.{octet-done, two-frames, rest-frame}
 use Rattle.frame.proofs.BlockLaws.{block-is}
 

@@ -15,7 +15,7 @@ use Rattle.bas.specs.Reading.{weight, readingOf}
 use Rattle.bas.specs.declared.Word.the-variants.{Code}
 use Rattle.bas.proofs.WordLaws.{length-line, line-back}
 use Rattle.bas.proofs.ReadingLaws.{word-back}
-use Rattle.modes.specs.Numbers.{evenFrame, oddFrame}
+use Rattle.numbers.specs.Numbers.{evenFrame, oddFrame}
 use Rattle.modes.specs.declared.Mode.{Mode}
 use Rattle.service.specs.Service.{evenAlignment, firstBits, evenRow, oddRow, serviceRows}
 use Rattle.buffers.specs.Buffers.{Buffers}

@@ -7,19 +7,20 @@ use native.Mathlib.Omega.{arith}
 use lib.ListN.{length, getD, take, replicate}
 use lib.Seq.{length-take-le}
 use Rattle.bits.proofs.PackLaws.{bits-octets, octets-zeros, take-bitsOf, octets-bits, below-take}
-use Rattle.bits.specs.Bits.{bitsOf, octets}
+use Rattle.bits.specs.Bits.{bitsOf, octets, nexts}
 use Rattle.bits.proofs.BitLaws.{length-bitsOf}
 use Rattle.modes.specs.declared.Mode.{Mode}
 use Rattle.modes.specs.declared.Owner.{Owner}
 use Rattle.modes.specs.declared.Owner.the-variants.{Voice, Lsd}
-use Rattle.places.specs.Streams.{Streams, count, fill, sort, nexts}
+use Rattle.places.specs.Streams.{Streams, count, fill, sort}
 use Rattle.places.specs.Places.{places}
 use Rattle.buffers.specs.Buffers.{Buffers}
 use Rattle.buffers.specs.Lengths.{lineOctets, streamOctets}
 use Rattle.frame.specs.Block.{heard, sources, blockOf}
 use Rattle.places.specs.Layout.{layoutOf}
 use Rattle.frame.specs.declared.Header.{Header}
-use Rattle.places.proofs.StreamLaws.{sorted, length-fill, nexts-take}
+use Rattle.places.proofs.StreamLaws.{sorted, length-fill}
+use Rattle.bits.proofs.NextLaws.{nexts-take}
 use Rattle.places.proofs.LayoutLaws.{apart-of}
 use Rattle.places.proofs.CountLaws.{length-both, voice-places, lsd-places}
 use Rattle.sorter.specs.Sorting.{sortedOf}

@@ -10,24 +10,24 @@ use lib.Dec.{ltb}
 use borrow.Author.Tests.{ltb-true, ltb-false}
 use lib.ListN.{length, getD, drop, length-append, List·getD-append}
 use lib.Seq.{getD-drop, getD-take, getD-append-add}
-use Rattle.bits.specs.Bits.{lowBits, number, digit, bitsOf}
+use Rattle.bits.specs.Bits.{lowBits, number, digit, bitsOf, nexts}
 use Rattle.crc.specs.Crc.{summed, blockCrcOf}
 use Rattle.crc.proofs.CrcLaws.{crc-agree}
 use Rattle.bits.proofs.BitLaws.{same-without}
 use Rattle.bits.proofs.PackLaws.{length-octets}
 use Rattle.bas.specs.Words.{wordBits, lineOrder}
 use Rattle.modes.specs.declared.Mode.{Mode}
-use Rattle.places.specs.Streams.{Streams, nexts}
+use Rattle.places.specs.Streams.{Streams}
 use Rattle.places.specs.Layout.{layoutOf, channelBy, sc, Apart}
 use Rattle.places.specs.declared.Layout.{Layout}
-use Rattle.places.proofs.LayoutLaws.{apart-of}
+use Rattle.places.proofs.LayoutLaws.{apart-of, channel-service}
 use Rattle.service.specs.Service.{oddRow}
 use Rattle.service.specs.Channel.{cBits}
 use Rattle.buffers.specs.Buffers.{Buffers}
 use Rattle.frame.specs.Block.{serviceBits, heard, byOwner, blockOf}
 use Rattle.frame.specs.Frame.{frameBy}
 use Rattle.frame.specs.declared.Header.{Header}
-use Rattle.frame.proofs.OctetLaws.{octet-at, channel-next, channel-service, channel-unserved}
+use Rattle.frame.proofs.OctetLaws.{octet-at, channel-next, channel-unserved}
 use Rattle.frame.proofs.WrittenLaws.{octet-done}
 use Rattle.round.proofs.BackLaws.{halves, length-even}
 use Rattle.round.proofs.HeaderLaws.{oddBit, even-service, odd-service, remainder-back}

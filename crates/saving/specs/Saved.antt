@@ -1,16 +1,13 @@
--- Saved forms of states: their octets in order, and a state back from them. docs/SAVED.md has a row for each form.
+-- Saved forms of a sender and of a reader: their octets in order, and a state back from them. docs/SAVED.md has a row for each form.
 use mathlib.Core.Bool.{cond}
-use mathlib.Core.List.{List, [], _∷_, _++_}
-use Prim.Native.Nat.{ℕ, zero, suc, _+_, _/_, _%_}
+use mathlib.Core.List.{List, [], _∷_}
+use Prim.Native.Nat.{ℕ}
 use lib.Dec.{eqb}
-use lib.ListN.{length, getD, replicate}
-use Rattle.bits.specs.Bits.{eightAt}
-use Rattle.control.specs.declared.Sender.{Sender}
-use Rattle.track.specs.declared.Reader.{Reader}
-use Rattle.saving.specs.declared.WalkState.{WalkState}
+use lib.ListN.{length, getD}
+use Rattle.sender.specs.declared.Sender.{Sender}
+use Rattle.reader.specs.declared.Reader.{Reader}
 use Rattle.saving.specs.declared.SenderLoad.{SenderLoad}
 use Rattle.saving.specs.declared.ReaderLoad.{ReaderLoad}
-use Rattle.saving.specs.declared.WalkLoad.{WalkLoad}
 
 -- ---- a form is written over a buffer of its own length, and over no other
 abbrev pub saveAnswer : List ℕ → List ℕ → ℕ
@@ -84,40 +81,3 @@ readerIn xs =
 
 abbrev pub readerLoaded : Reader → List ℕ → ReaderLoad
 readerLoaded s xs = cond (eqb (length xs) 12) (record { state = readerIn xs; answer = 1 }) (record { state = s; answer = 0 })
-
--- ---- a walk: its reader's 12 octets, the mark of a lost block, and the place in eight octets, the lowest first
-unfoldable pub lowFirst : ℕ → ℕ → List ℕ
-lowFirst zero n = []
-lowFirst (suc k) n = n % 256 ∷ lowFirst k (n / 256)
-
-abbrev pub walkOctets : WalkState → List ℕ
-walkOctets w = readerOctets (w .reader) ++ (w .lost ∷ lowFirst 8 (w .place))
-
--- what saving one answers, and what the buffer holds then
-abbrev pub walkSaved : WalkState → List ℕ → ℕ
-walkSaved s buffer = saveAnswer (walkOctets s) buffer
-
-abbrev pub walkKept : WalkState → List ℕ → List ℕ
-walkKept s buffer = savedOver (walkOctets s) buffer
-
--- the number of the eight octets from a place on, the lowest first: the same octets with the highest first are one number
-abbrev pub eightLowFirst : List ℕ → ℕ → ℕ
-eightLowFirst xs at =
-    eightAt
-    (getD xs (at + 7) 0
-    ∷ getD xs (at + 6) 0
-    ∷ getD xs (at + 5) 0
-    ∷ getD xs (at + 4) 0
-    ∷ getD xs (at + 3) 0
-    ∷ getD xs (at + 2) 0
-    ∷ getD xs (at + 1) 0
-    ∷ getD xs at 0
-    ∷ [])
-    0
-
-abbrev pub walkIn : List ℕ → WalkState
-walkIn xs =
-    record { place = eightLowFirst xs 13; reader = readerIn xs; lost = getD xs 12 0; reserved = replicate 3 0 }
-
-abbrev pub walkLoaded : WalkState → List ℕ → WalkLoad
-walkLoaded w xs = cond (eqb (length xs) 21) (record { state = walkIn xs; answer = 1 }) (record { state = w; answer = 0 })

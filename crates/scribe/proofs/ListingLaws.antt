@@ -12,9 +12,9 @@ use Rattle.bits.specs.Bits.{digit}
 use Rattle.bits.proofs.BoolLaws.{digit-low}
 use Rattle.text.specs.Over.{Written}
 use Rattle.text.proofs.OverLaws.{written-none, written-then, written-length}
-use Rattle.track.specs.State.{stateInRange}
-use Rattle.track.specs.declared.Reader.{Reader}
-use Rattle.track.proofs.RangeLaws.{fresh-in-range}
+use Rattle.reader.specs.State.{stateInRange}
+use Rattle.reader.specs.declared.Reader.{Reader}
+use Rattle.reader.proofs.StateLaws.{fresh-in-range}
 use Rattle.search.specs.Finding.{searchOf}
 use Rattle.refusals.specs.Numbers.{numberOf}
 use Rattle.refusals.proofs.RowLaws.{number-within}

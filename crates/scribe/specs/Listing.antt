@@ -4,8 +4,8 @@ use mathlib.Core.List.{List, [], _++_}
 use Prim.Native.Nat.{ℕ, zero, suc, _+_}
 use lib.ListN.{length}
 use Rattle.modes.specs.Modes.{off}
-use Rattle.track.specs.State.{freshIn}
-use Rattle.track.specs.declared.Reader.{Reader}
+use Rattle.reader.specs.State.{freshIn}
+use Rattle.reader.specs.declared.Reader.{Reader}
 use Rattle.search.specs.Finding as finding
 use Rattle.search.specs.declared.Found.{Found}
 use Rattle.refusals.specs.Numbers.{numberOf}

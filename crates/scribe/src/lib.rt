@@ -3,14 +3,14 @@ ghost use mathlib.Core.Path.{_≡_};
 ghost use mathlib.Core.Bool.{true, false};
 ghost use Prim.Native.Nat.{_+_, _<_, _≤_};
 ghost use lib.ListN.{length};
-ghost use Rattle.track.specs.State.{stateInRange};
+ghost use Rattle.reader.specs.State.{stateInRange};
 ghost use Rattle.text.specs.Over.{Written};
 ghost use Rattle.recording.specs.Walk.{answerHere, steppedBy};
 ghost use Rattle.scribe.specs.Listing.{isLast, countAfter, linesFrom, begun, listingOf};
+use reader::Reader;
 use recording::Answer;
 use recording::Stepped;
 use search::Found;
-use track::Reader;
 
 fn is_last(answer: Answer) -> bool
     ensures { λ r. ⌜ r ≡ isLast answer ⌝ }
@@ -52,7 +52,7 @@ fn put_walk(text: &mut [u8], at: usize, recording: &[u8], start: usize) -> usize
     let mut a = at;
     let mut place = start;
     let mut lost = false;
-    let mut s = track::fresh();
+    let mut s = reader::fresh();
     let mut count = 0;
     for turn in 0..recording.len() {
         let stepped = step_on(recording, place, lost, s);

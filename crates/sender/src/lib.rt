@@ -1,60 +1,61 @@
-// The sender's step: state, call and buffers in; the next state and the answer out; the block written into the lent line (document 01,
-// 'Sending a block').
+// What a sender keeps between blocks, when that is in range, and the state that a session starts in (document 01, 'Sending a block').
 ghost use mathlib.Core.Path.{_≡_};
-ghost use Rattle.buffers.specs.Buffers.{each};
-ghost use Rattle.control.specs.Decisions.{withRemainder};
-ghost use Rattle.sender.specs.Step.{Told};
-use control::Answer;
-use control::Call;
-use control::Sender;
-use frame::Header;
-use refusals::Ruling;
+ghost use Rattle.modes.specs.Modes.{audioOff};
+ghost use Rattle.sender.specs.State.{chosenMode, stateInRange, freshWith};
+use modes::Mode;
+use numbers::BlockNumber;
 
-// A struct and not an enum, since the state is to hold more than an enum may.
-pub struct Outcome {
-    pub state: Sender,
-    pub answer: Answer,
+// What a sender keeps between blocks, laid out as in C for a card driver. The chosen audio stands apart from the audio in force; `due` is
+// 0, or an item is due (DECISIONS F46).
+#[repr(C)]
+pub struct Sender {
+    pub chosen: u8,
+    pub mode: Mode,
+    pub block: BlockNumber,
+    pub due: u8,
+    pub remainder: u8,
 }
 
-// A state with the remainder of the block that was written.
-fn with_remainder(s: Sender, remainder: u8) -> Sender
-    ensures { λ r. ⌜ r ≡ withRemainder s remainder ⌝ }
+// The mode that is chosen: that in force, with the chosen audio.
+pub fn chosen_mode(s: Sender) -> Mode
+    ensures { λ r. ⌜ r ≡ chosenMode s ⌝ }
 {
-    let mut next = s;
-    next.remainder = remainder;
-    next
+    let mode = s.mode;
+    modes::with_audio(mode, s.chosen)
 }
 
-// One call: the block goes into the lent line, or the call is refused and changes nothing.
-pub fn send(state: Sender, call: Call, voice: &[u8], lsd: &[u8], line: &mut [u8]) -> Outcome
-    ensures { λ r. ⌜ Told state call (each (now (voice .entry)) (now (lsd .entry))) (now (line .entry)) r (now (line .exit)) ⌝ }
+// Whether a state is in range.
+pub fn in_range(s: Sender) -> bool
+    ensures { λ r. ⌜ r ≡ stateInRange s ⌝ }
 {
-    let mode = state.mode;
-    let block = state.block;
-    let decided = control::decide(state, call, line.len(), voice.len(), lsd.len());
-    let ruling = decided.ruling;
-    let answer = decided.answer;
-    let next = decided.next;
-    match ruling {
-        Ruling::Refuse(_why) => Outcome {
-            state: next,
-            answer: answer,
-        },
-        Ruling::Accept => {
-            let header = Header {
-                a: call.a,
-                e: call.e,
-                t: call.t,
-                block: block,
-                remainder: state.remainder,
-                code: decided.word,
-            };
-            frame::write_block(line, mode, header, call.mute, voice, lsd);
-            let advanced = with_remainder(next, crc::block_crc(line));
-            Outcome {
-                state: advanced,
-                answer: answer,
-            }
-        }
+    let chosen = s.chosen;
+    let audio = s.mode.audio;
+    let block = s.block.0;
+    let remainder = s.remainder;
+    modes::in_range(chosen_mode(s))
+        & ((audio == 31) | (audio == chosen))
+        & ((1 <= block) & (block <= 8))
+        & (remainder <= 15)
+}
+
+// The state that a session starts in, but for the chosen audio.
+pub fn fresh_with(audio: u8) -> Sender
+    ensures { λ r. ⌜ r ≡ freshWith audio ⌝ }
+{
+    let mode = modes::off();
+    let block = BlockNumber(1);
+    Sender {
+        chosen: audio,
+        mode: mode,
+        block: block,
+        due: 0,
+        remainder: 0,
     }
+}
+
+// The state that a session starts in.
+pub fn fresh() -> Sender
+    ensures { λ r. ⌜ r ≡ freshWith audioOff ⌝ }
+{
+    fresh_with(31)
 }

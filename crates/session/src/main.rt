@@ -3,10 +3,10 @@
 ghost use Prim.Native.Nat.{_≤_};
 use control::Answer;
 use control::Call;
-use control::Sender;
 use libc::STDOUT_FILENO;
-use modes::BlockNumber;
-use sender::Outcome;
+use numbers::BlockNumber;
+use sender::Sender;
+use sending::Outcome;
 
 // The calls, one to a row: the offered code in the upper octet, and the way it is made in the lower. The bits of a way: 01 mute, 02 A,
 // 04 E, 08 T, 10 a short line, 20 short voice, 40 short data, 80 a forged state.
@@ -217,7 +217,7 @@ fn lent(given: Sender, call: Call, way: u8, voice: &[u8], lsd: &[u8], line: &mut
     let line_end = end(line.len(), way, 4);
     let voice_end = end(voice.len(), way, 5);
     let lsd_end = end(lsd.len(), way, 6);
-    sender::send(
+    sending::send(
         given,
         call,
         &voice[..voice_end],
@@ -258,7 +258,7 @@ fn after(s: Sender, k: usize, row: u16) -> Sender {
 }
 
 fn main() {
-    let mut state = control::fresh();
+    let mut state = sender::fresh();
     for i in 0..52 {
         state = after(state, i + 1, SCRIPT[i]);
     }

@@ -1,13 +1,13 @@
 -- The run of a stream in an octet, and a block sorted by runs: what has come out of its first octets, of a frame, and of all.
 use mathlib.Core.Path.{_≡_, refl, ap, sym, _∙_}
-use mathlib.Core.Bool.{Bool, true, false, false≢true, cond}
+use mathlib.Core.Bool.{Bool, true, false, false≢true}
 use mathlib.Core.Logic.{_⊎_, inl, inr, ⊎-elim}
 use mathlib.Core.List.{List, [], _++_, append-assoc, append-nil}
 use Prim.Native.Nat.{ℕ, zero, suc, _+_, _-_, _*_, _%_, _≤_, _<_}
 use native.Mathlib.Nat.{mod-eq-of-lt, mul-comm, add-zero, suc-add}
 use native.Mathlib.Numerals.{add-one}
 use native.Mathlib.Omega.{arith}
-use borrow.Author.Tests.{eqb-true, leb-true, leb-false, le-leb, lt-leb}
+use borrow.Author.Tests.{eqb-true, leb-true, leb-false}
 use lib.Dec.{eqb, leb}
 use lib.ListN.{length, getD, take, drop, length-append, length-replicate}
 use lib.Seq.{drop-drop, take-add, drop-cons}
@@ -15,12 +15,12 @@ use Rattle.bits.specs.Bits.{bitsOf, octetBits}
 use Rattle.bits.proofs.BoolLaws.{and-left, and-right}
 use Rattle.bits.proofs.RunLaws.{drop-bitsOf, run-left, length-octet}
 use Rattle.modes.specs.declared.Owner.{Owner}
-use Rattle.modes.specs.declared.Owner.the-variants.{Service, Voice, Lsd, Nobody}
+use Rattle.modes.specs.declared.Owner.the-variants.{Voice, Lsd, Nobody}
 use Rattle.places.specs.Streams.{same, sort}
 use Rattle.places.specs.Layout.{Apart, columnsBy, channelBy, rowBy, rowsBy, inEights}
 use Rattle.places.specs.declared.Layout.{Layout}
 use Rattle.places.proofs.StreamLaws.{sort-append, sort-all, sort-none}
-use Rattle.places.proofs.LayoutLaws.{no-voice, length-row}
+use Rattle.places.proofs.LayoutLaws.{channel-cases, channel-lsd, no-voice, length-row}
 use Rattle.packing.specs.Filled.{runs}
 use Rattle.packing.proofs.RunsLaws.{no-runs}
 use Rattle.buffers.specs.Lengths.{lineOctets}
@@ -39,21 +39,14 @@ sort-lsd p o bs h =
     let f : 7 - p .columns + p .columns ≡ 7 = omega arith in
     simp (sort-append, sort-all, sort-none Lsd Nobody, sort-none Lsd Voice, length-append, length-replicate, append-nil, e, f)
 
-is-lsd : (p : Layout) (o : ℕ) → 16 < o → p .first ≤ o → o ≤ p .last → channelBy p o ≡ Lsd
-unfolding channelBy
-is-lsd p o h k l = rw (lt-leb o 16 h, le-leb (p .first) o k, le-leb o (p .last) l)
-
 not-lsd : (p : Layout) (o : ℕ) → (o < p .first) ⊎ (p .last < o) → same Lsd (channelBy p o) ≡ 0
-unfolding same channelBy
-not-lsd p o h = go (leb o 16) (leb (p .first) o) (leb o (p .last)) refl refl h
-  where
-    go : (a b c : Bool) → leb (p .first) o ≡ b → leb o (p .last) ≡ c → (o < p .first) ⊎ (p .last < o)
-        → same Lsd (cond a Service (cond b (cond c Lsd Nobody) Nobody)) ≡ 0
-    go true b c eb ec h = refl
-    go false true true eb ec (inl l) = absurd (omega (arith, leb-true))
-    go false true true eb ec (inr l) = absurd (omega (arith, leb-true))
-    go false true false eb ec h = refl
-    go false false c eb ec h = refl
+unfolding same
+not-lsd p o h =
+    channel-cases p o (λ (w : Owner). same Lsd w ≡ 0)
+    (λ l. refl)
+    (λ l f u. ⊎-elim (λ b. absurd (omega arith)) (λ a. absurd (omega arith)) h)
+    (λ l b. refl)
+    (λ l a. refl)
 
 -- data with the SC bit of its octet, and without
 pub sort-lsd-in : (p : Layout) (o : ℕ) (bs : List Bool) → p .width + p .columns ≤ 7 → 16 < o → p .first ≤ o → o ≤ p .last
@@ -61,7 +54,7 @@ pub sort-lsd-in : (p : Layout) (o : ℕ) (bs : List Bool) → p .width + p .colu
 unfolding same
 sort-lsd-in p o bs h k f l =
     let e : 7 - p .columns + p .columns ≡ 7 = omega arith in
-    rw (sort-lsd p o bs h, is-lsd p o k f l, take-add (p .columns) 1 (drop (7 - p .columns) bs), drop-drop (p .columns) (7 - p .columns) bs, e)
+    rw (sort-lsd p o bs h, channel-lsd p o k f l, take-add (p .columns) 1 (drop (7 - p .columns) bs), drop-drop (p .columns) (7 - p .columns) bs, e)
 
 pub sort-lsd-out : (p : Layout) (o : ℕ) (bs : List Bool) → p .width + p .columns ≤ 7 → (o < p .first) ⊎ (p .last < o)
     → sort Lsd (rowBy p o) bs ≡ take (p .columns) (drop (7 - p .columns) bs)

@@ -3,11 +3,11 @@
 // nothing is sent.
 use control::Answer;
 use control::Call;
-use control::Sender;
 use libc::STDERR_FILENO;
 use libc::STDOUT_FILENO;
 use modes::Mode;
 use modes::Owner;
+use sender::Sender;
 
 // How far a word is read as a call.
 enum Stage {
@@ -295,7 +295,7 @@ fn framed(session: Session, call: Call, voice: &[u8; buffers::VOICE]) -> Session
     let mut line = [0u8; buffers::LINE];
     let lsd = [0u8; buffers::LSD];
     let state = session.state;
-    let outcome = sender::send(state, call, voice, &lsd, &mut line);
+    let outcome = sending::send(state, call, voice, &lsd, &mut line);
     let answer = outcome.answer;
     let next = outcome.state;
     if io::write_all(STDOUT_FILENO, &line) {
@@ -323,7 +323,7 @@ fn made(session: Session, call: Call) -> Session {
     let silence = [0u8; buffers::VOICE];
     let lsd = [0u8; buffers::LSD];
     let state = session.state;
-    let trial = sender::send(state, call, &silence, &lsd, &mut line);
+    let trial = sending::send(state, call, &silence, &lsd, &mut line);
     let answer = trial.answer;
     match answer {
         Answer::Sent => accepted(session, call),
@@ -356,7 +356,7 @@ fn repeated(found: Session, call: Call, times: u16) -> Session {
 
 // Makes every call of the arguments. The course that it took.
 fn all_sent(count: usize) -> Course {
-    let fresh = control::fresh();
+    let fresh = sender::fresh();
     let mut session = Session {
         state: fresh,
         number: 1,

@@ -1,63 +1,28 @@
 -- A block read on a state in range leaves one in range.
 use mathlib.Core.Path.{_≡_, refl}
-use mathlib.Core.Bool.{Bool, true, false, cond, _&&_}
+use mathlib.Core.Bool.{Bool, true, false, cond}
 use mathlib.Core.List.{List}
 use Prim.Native.Nat.{ℕ, _+_, _≤_}
 use native.Mathlib.Omega.{arith}
 use lib.Dec.{eqb, leb}
-use borrow.Author.Tests.{eqb-false, leb-true, le-leb}
+use borrow.Author.Tests.{eqb-false, leb-true}
 use Rattle.crc.proofs.CrcLaws.{crc-low}
-use Rattle.bits.proofs.BoolLaws.{and-left, and-right}
-use Rattle.modes.specs.Numbers.{following}
-use Rattle.modes.specs.Modes.{audioOff, lsdOff, off, mode, inRange}
-use Rattle.modes.proofs.ModeLaws.{following-low, in-range, off-ranged}
-use Rattle.slots.specs.Readings.{obeyed}
+use Rattle.bits.proofs.BoolLaws.{and-right}
+use Rattle.numbers.specs.Numbers.{following}
+use Rattle.numbers.proofs.NumberLaws.{following-low}
+use Rattle.modes.specs.Modes.{inRange}
+use Rattle.words.specs.Readings.{obeyed}
 use Rattle.slots.specs.declared.Due.{Due}
 use Rattle.slots.specs.declared.Due.the-variants.{Plain}
-use Rattle.slots.proofs.RangeLaws.{obeyed-in-range}
-use Rattle.track.specs.State.{known, stateInRange, freshIn}
+use Rattle.words.proofs.RangeLaws.{obeyed-in-range}
+use Rattle.reader.specs.State.{known, stateInRange, freshIn}
 use Rattle.track.specs.Signs.{signsOf}
 use Rattle.track.specs.Parts.{counted, wrongRun, modeBefore, wordRead, sought, compared, multiframeAfter}
 use Rattle.track.specs.Step.{nextOf, stepOf}
-use Rattle.track.specs.declared.Reader.{Reader}
+use Rattle.reader.specs.declared.Reader.{Reader}
 use Rattle.track.specs.declared.Signs.{Signs}
 use Rattle.track.specs.declared.Multiframe.{Multiframe}
-
--- ---- the parts of a state in range
-pub record Kept (s : Reader) : Type 0 where
-  pub force : inRange (s .mode) ≡ true
-  pub back : inRange (s .kept) ≡ true
-  pub wrong-low : s .wrong ≤ 2
-  pub misses-low : s .misses ≤ 2
-  pub rest : leb (s .remainder) 15 ≡ true
-  pub place : s .block .0 ≤ 8
-
-pub kept : (s : Reader) → stateInRange s ≡ true → Kept s
-unfolding stateInRange
-kept s t =
-    let a = inRange (s .mode) in
-    let b = inRange (s .kept) in
-    let c = leb (s .wrong) 2 in
-    let d = leb (s .misses) 2 in
-    let e = leb (s .remainder) 15 in
-    let f = leb (s .block .0) 8 in
-    let t5 = and-left (a && b && c && d && e) f t in
-    let t4 = and-left (a && b && c && d) e t5 in
-    let t3 = and-left (a && b && c) d t4 in
-    let t2 = and-left (a && b) c t3 in
-    record {
-      force = and-left a b t2;
-      back = and-right a b t2;
-      wrong-low = leb-true (s .wrong) 2 (and-right (a && b) c t3);
-      misses-low = leb-true (s .misses) 2 (and-right (a && b && c) d t4);
-      rest = and-right (a && b && c && d) e t5;
-      place = leb-true (s .block .0) 8 (and-right (a && b && c && d && e) f t);
-    }
-
-keeps : (s : Reader) → Kept s → stateInRange s ≡ true
-unfolding stateInRange
-keeps s k =
-    rw (k .force, k .back, le-leb (s .wrong) 2 (k .wrong-low), le-leb (s .misses) 2 (k .misses-low), k .rest, le-leb (s .block .0) 8 (k .place))
+use Rattle.reader.proofs.StateLaws.{Kept, kept, keeps}
 
 -- ---- runs, modes and places
 -- a run that is not at 3 now is at most 2
@@ -127,12 +92,6 @@ module _ (s : Reader) (g : Signs) (k : Kept s) (low : leb (g .remainder) 15 ≡ 
       go : (b : Bool) → eqb (wrongRun s g) 3 ≡ b → Kept ((stepOf s g) .state)
       go true e = rw e (fresh-kept s k)
       go false e = rw e (next-kept e)
-
--- a fresh state is in range
-pub fresh-in-range : stateInRange (freshIn off) ≡ true
-fresh-in-range =
-    let m = in-range (mode audioOff lsdOff) off-ranged in
-    keeps _ (record { force = m; back = m; wrong-low = omega arith; misses-low = omega arith; rest = refl; place = omega arith })
 
 -- a block taken on a state in range leaves one in range
 pub step-in-range : (s : Reader) (line : List ℕ) → stateInRange s ≡ true → stateInRange ((stepOf s (signsOf line)) .state) ≡ true

@@ -1,4 +1,3 @@
-pub mod State
 pub mod Signs
 pub mod Parts
 pub mod Step

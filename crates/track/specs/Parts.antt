@@ -4,17 +4,17 @@ use Prim.Native.Nat.{ℕ, _+_, _*_, _%_}
 use lib.Dec.{eqb}
 use Rattle.bits.specs.Bits.{digit}
 use Rattle.bas.specs.declared.Word.{Word}
-use Rattle.modes.specs.Numbers.{following}
-use Rattle.modes.specs.declared.BlockNumber.{BlockNumber}
+use Rattle.numbers.specs.Numbers.{following}
+use Rattle.numbers.specs.declared.BlockNumber.{BlockNumber}
 use Rattle.modes.specs.declared.Mode.{Mode}
 use Rattle.slots.specs.Slots.{dueNow, dueAfter, dueOf}
-use Rattle.slots.specs.Readings.{readingIn}
+use Rattle.words.specs.Readings.{readingIn}
 use Rattle.slots.specs.declared.Due.{Due}
 use Rattle.slots.specs.declared.Due.the-variants.{Plain}
-use Rattle.slots.specs.declared.Reading.{Reading}
-use Rattle.slots.specs.declared.Reading.the-variants.{NotRead}
-use Rattle.track.specs.State.{block, unknown, known}
-use Rattle.track.specs.declared.Reader.{Reader}
+use Rattle.words.specs.declared.Reading.{Reading}
+use Rattle.words.specs.declared.Reading.the-variants.{NotRead}
+use Rattle.reader.specs.State.{block, unknown, known}
+use Rattle.reader.specs.declared.Reader.{Reader}
 use Rattle.track.specs.declared.Signs.{Signs}
 use Rattle.track.specs.declared.Multiframe.{Multiframe}
 use Rattle.track.specs.declared.Standing.{Standing}

@@ -3,11 +3,11 @@ use mathlib.Core.Bool.{cond}
 use Prim.Native.Nat.{ℕ}
 use lib.Dec.{eqb}
 use Rattle.slots.specs.Slots.{slotOf}
-use Rattle.slots.specs.Readings.{obeyed}
-use Rattle.slots.specs.declared.Reading.the-variants.{NotRead}
-use Rattle.track.specs.State.{freshIn}
+use Rattle.words.specs.Readings.{obeyed}
+use Rattle.words.specs.declared.Reading.the-variants.{NotRead}
+use Rattle.reader.specs.State.{freshIn}
 use Rattle.track.specs.Parts.{wrongRun, modeBefore, keptAfter, verdictOf, standingOf, wordRead, dueRead, sixAfter, spelled, multiframeAfter}
-use Rattle.track.specs.declared.Reader.{Reader}
+use Rattle.reader.specs.declared.Reader.{Reader}
 use Rattle.track.specs.declared.Signs.{Signs}
 use Rattle.track.specs.declared.Report.{Report}
 use Rattle.track.specs.declared.Stepped.{Stepped}

@@ -1,37 +1,17 @@
-// What a reader keeps between blocks, and what a block does to it: alignment, CRC verdict, word and multiframe place (document 01, 'Reading a
-// block' and 'CRC-4').
+// What a block does to what a reader keeps: alignment, CRC verdict, word and multiframe place (document 01, 'Reading a block' and 'CRC-4').
 ghost use mathlib.Core.Path.{_≡_};
-ghost use mathlib.Core.Bool.{_&&_};
 ghost use Prim.Native.Nat.{_≤_};
-ghost use Rattle.modes.specs.Modes.{off, inRange};
 ghost use Rattle.service.specs.Channel.{wrongBits};
-ghost use Rattle.track.specs.State.{stateInRange, freshIn};
 ghost use Rattle.track.specs.Signs.{wordIn, signsOf};
 ghost use Rattle.track.specs.Parts.{counted, modeBefore, verdictOf, standingOf, wordRead, dueRead, sixAfter, compared, multiframeAfter, keptAfter};
 ghost use Rattle.track.specs.Step.{lostStep, reportOf, nextOf, onStep, stepOf};
 use bas::Word;
-use modes::BlockNumber;
 use modes::Mode;
+use numbers::BlockNumber;
+use reader::Reader;
 use slots::Due;
-use slots::Reading;
 use slots::Slot;
-
-// What a reader keeps between blocks: the mode in force; the mode before the first of a run of wrong alignment words, and that run; the
-// number of the next block, 0 while it is unknown; the odd-frame first bits since alignment, of which the last six count, as a number;
-// the run of wrong patterns; what is due; whether there is a block before, and its remainder (DECISIONS F19). Laid out as in C for a card
-// driver.
-#[repr(C)]
-pub struct Reader {
-    pub mode: Mode,
-    pub kept: Mode,
-    pub wrong: u8,
-    pub block: BlockNumber,
-    pub firsts: u8,
-    pub misses: u8,
-    pub slot: Slot,
-    pub before: u8,
-    pub remainder: u8,
-}
+use words::Reading;
 
 // What a block shows in its service channel, and its remainder.
 pub struct Signs {
@@ -71,53 +51,6 @@ pub struct Multiframe {
     pub block: BlockNumber,
     pub misses: u8,
     pub due: Due,
-}
-
-// Whether both modes of a state are in range. They are mostly one, which is then judged once.
-fn modes_in_range(mode: Mode, kept: Mode) -> bool
-    ensures { λ r. ⌜ r ≡ (inRange mode && inRange kept) ⌝ }
-{
-    let first = modes::in_range(mode);
-    if modes::same(kept, mode) {
-        return first;
-    }
-    first & modes::in_range(kept)
-}
-
-// Whether a state is in range.
-pub fn in_range(s: Reader) -> bool
-    ensures { λ r. ⌜ r ≡ stateInRange s ⌝ }
-{
-    let wrong = s.wrong;
-    let misses = s.misses;
-    let remainder = s.remainder;
-    let block = s.block.0;
-    modes_in_range(s.mode, s.kept) & (wrong <= 2) & (misses <= 2) & (remainder <= 15) & (block <= 8)
-}
-
-fn fresh_in(mode: Mode) -> Reader
-    ensures { λ r. ⌜ r ≡ freshIn mode ⌝ }
-{
-    let block = BlockNumber(0);
-    let slot = Slot { kind: 0, words: 0 };
-    Reader {
-        mode: mode,
-        kept: mode,
-        wrong: 0,
-        block: block,
-        firsts: 63,
-        misses: 0,
-        slot: slot,
-        before: 0,
-        remainder: 0,
-    }
-}
-
-// The state that a reader starts in.
-pub fn fresh() -> Reader
-    ensures { λ r. ⌜ r ≡ freshIn off ⌝ }
-{
-    fresh_in(modes::off())
 }
 
 // The block's BAS word, where at most two of its alignment bits are wrong.
@@ -191,7 +124,7 @@ fn word_read(s: Reader, word: Word) -> Reading
     if block.0 == 0 {
         return Reading::NotRead;
     }
-    slots::reading_in(slots::due_of(slot), word)
+    words::reading_in(slots::due_of(slot), word)
 }
 
 fn due_read(s: Reader, word: Word) -> Due
@@ -263,7 +196,7 @@ fn multiframe_after(s: Reader, right: bool, due: Due) -> Multiframe
     if block.0 == 6 {
         return compare(misses, right, due);
     }
-    let next = modes::next_block(block);
+    let next = numbers::next_block(block);
     Multiframe {
         block: next,
         misses: misses,
@@ -313,7 +246,7 @@ fn next_of(s: Reader, g: Signs, run: u8) -> Reader
 {
     let old = s.mode;
     let word = g.word;
-    let mode = slots::obey(word_read(s, word), old);
+    let mode = words::obey(word_read(s, word), old);
     let kept = kept_after(s, g.wrong, mode);
     let firsts = six_after(s.firsts, g.first);
     let stands = multiframe_after(s, firsts == 0b001011, due_read(s, word));
@@ -337,7 +270,7 @@ fn next_of(s: Reader, g: Signs, run: u8) -> Reader
 fn lose(s: Reader) -> Stepped
     ensures { λ r. ⌜ r ≡ lostStep s ⌝ }
 {
-    let gone = fresh_in(mode_before(s));
+    let gone = reader::fresh_in(mode_before(s));
     let lost = Report {
         standing: Standing::Lost,
         verdict: Verdict::None,

@@ -6,7 +6,7 @@ use Prim.Native.Nat.{ℕ}
 use denote.Ref.{now}
 use Rattle.bits.proofs.Settled.{settled}
 use Rattle.buffers.specs.Buffers.{Buffers}
-use Rattle.track.specs.declared.Reader.{Reader}
+use Rattle.reader.specs.declared.Reader.{Reader}
 use Rattle.recording.specs.Walk.{stepAt, buffersAt}
 use Rattle.recording.specs.declared.Stepped.{Stepped}
 use Rattle.recording.proofs.StepLaws.{Left, step-settled}

@@ -5,9 +5,9 @@ ghost use mathlib.Core.Path.{_≡_};
 ghost use Rattle.buffers.specs.Buffers.{each};
 ghost use Rattle.recording.specs.Walk.{stepAt, buffersAt, lookAt};
 ghost use Rattle.walk.specs.Walks.{opened, onward};
+use reader::Reader;
 use recording::Answer;
 use recording::Stepped;
-use track::Reader;
 
 // A lent recording, a place in it, and whether the block before that place was lost.
 pub struct Walk<'a> {

@@ -3,8 +3,8 @@ use Prim.Native.String.{String}
 use Prim.Native.Nat.{ℕ, _+_, _≤_, _<_}
 use native.Mathlib.Omega.{arith}
 use lib.ListN.{length, length-append}
-use Rattle.slots.specs.declared.Reading.{Reading}
-use Rattle.slots.specs.declared.Reading.the-variants.{Mended, Item, MessageWord, ForbiddenItem, NotFollowed, Unreadable, NotRead}
+use Rattle.words.specs.declared.Reading.{Reading}
+use Rattle.words.specs.declared.Reading.the-variants.{Mended, Item, MessageWord, ForbiddenItem, NotFollowed, Unreadable, NotRead}
 use Rattle.text.specs.Digits.{hexOf}
 use Rattle.text.specs.Words.{textOf}
 use Rattle.text.proofs.Decimal.{decimal-three, decimal-five}

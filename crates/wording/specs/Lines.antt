@@ -4,8 +4,8 @@ use Prim.Native.Nat.{ℕ}
 use Prim.Native.String.{String}
 use Rattle.text.specs.Digits.{hexOf, decimalOf}
 use Rattle.text.specs.Words.{textOf}
-use Rattle.slots.specs.declared.Reading.{Reading}
-use Rattle.slots.specs.declared.Reading.the-variants.{Mended, Item, MessageWord, ForbiddenItem, NotFollowed, Unreadable, NotRead}
+use Rattle.words.specs.declared.Reading.{Reading}
+use Rattle.words.specs.declared.Reading.the-variants.{Mended, Item, MessageWord, ForbiddenItem, NotFollowed, Unreadable, NotRead}
 use Rattle.track.specs.declared.Report.{Report}
 use Rattle.track.specs.declared.Standing.{Standing}
 use Rattle.track.specs.declared.Standing.the-variants.{Waiting, Read, Lost}

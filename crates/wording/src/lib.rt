@@ -5,10 +5,10 @@ ghost use Rattle.text.specs.Digits.{decimalOf};
 ghost use Rattle.text.specs.Words.{textOf};
 ghost use Rattle.wording.specs.Lines.{standingText, verdictText, codeText, blockLine, lineText};
 use recording::Answer;
-use slots::Reading;
 use track::Report;
 use track::Standing;
 use track::Verdict;
+use words::Reading;
 
 fn put_standing(text: &mut [u8], at: usize, standing: Standing) -> usize
     ensures { λ r. ⌜ Written at (standingText standing) (now (text .entry)) r (now (text .exit)) ⌝ }

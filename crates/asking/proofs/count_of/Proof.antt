@@ -5,8 +5,8 @@ use Rattle.modes.specs.Owners.{heldBy, bitsPerFrame}
 use Rattle.modes.specs.declared.Mode.{Mode}
 use Rattle.modes.specs.declared.Owner.{Owner}
 use Rattle.modes.specs.declared.Owner.the-variants.{Voice, Lsd}
-use Rattle.modes.proofs.OwnerLaws.{bits-per-frame-is}
-use Rattle.modes.proofs.TableLaws.{Fit, held-fit}
+use Rattle.modes.proofs.OwnerLaws.{held-fit, bits-per-frame-is}
+use Rattle.table.proofs.TableLaws.{Fit}
 use borrow.Author.Needs.{needs}
 use Rattle.asking.proofs.count_of.Statement.{statement}
 use Rattle.asking.proofs.count_of.Tie as tie

@@ -44,9 +44,9 @@ use denote.Triple.Walked.{says, Stays, stay-ref, stay-none-slice, walkOf, AllGo,
 use denote.Exit.{yes}
 use Rattle.buffers.specs.Buffers.{each}
 use Rattle.saving.specs.Saved.{readerLoaded}
-use Rattle.track.specs.declared.Reader.{Reader}
-use Rattle.track.proofs.Reader as T
-use Rattle.track.proofs.Reader.Laws as T′
+use Rattle.reader.specs.declared.Reader.{Reader}
+use Rattle.reader.proofs.Reader as T
+use Rattle.reader.proofs.Reader.Laws as T′
 use Rattle.saving.specs.declared.ReaderLoad.{ReaderLoad}
 use Rattle.saving.proofs.ReaderLoad as S
 use Rattle.saving.proofs.ReaderLoad.Laws as S′

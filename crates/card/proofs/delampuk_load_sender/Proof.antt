@@ -44,9 +44,9 @@ use denote.Triple.Walked.{says, Stays, stay-ref, stay-none-slice, walkOf, AllGo,
 use denote.Exit.{yes}
 use Rattle.buffers.specs.Buffers.{each}
 use Rattle.saving.specs.Saved.{senderLoaded}
-use Rattle.control.specs.declared.Sender.{Sender}
-use Rattle.control.proofs.Sender as T
-use Rattle.control.proofs.Sender.Laws as T′
+use Rattle.sender.specs.declared.Sender.{Sender}
+use Rattle.sender.proofs.Sender as T
+use Rattle.sender.proofs.Sender.Laws as T′
 use Rattle.saving.specs.declared.SenderLoad.{SenderLoad}
 use Rattle.saving.proofs.SenderLoad as S
 use Rattle.saving.proofs.SenderLoad.Laws as S′

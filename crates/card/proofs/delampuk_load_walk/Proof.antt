@@ -43,17 +43,17 @@ use denote.Triple.Table.{entered, cited}
 use denote.Triple.Walked.{says, Stays, stay-ref, stay-none-slice, walkOf, AllGo, goes-ref, goes-none-slice, Walks, ends-at, walked, walk-meets}
 use denote.Exit.{yes}
 use Rattle.buffers.specs.Buffers.{each}
-use Rattle.saving.specs.Saved.{walkLoaded}
-use Rattle.saving.specs.declared.WalkState.{WalkState}
-use Rattle.saving.proofs.WalkState as T
-use Rattle.saving.proofs.WalkState.Laws as T′
-use Rattle.saving.specs.declared.WalkLoad.{WalkLoad}
-use Rattle.saving.proofs.WalkLoad as S
-use Rattle.saving.proofs.WalkLoad.Laws as S′
-use Rattle.saving.proofs.load_walk as load-walk′
-use Rattle.saving.proofs.load_walk.Symbol as load-walk-def
-use Rattle.saving.proofs.load_walk.Symbol.{name as #saving·load-walk}
-use Rattle.saving.proofs.load_walk.Met as load-walk-thm
+use Rattle.keeping.specs.SavedWalk.{walkLoaded}
+use Rattle.keeping.specs.declared.WalkState.{WalkState}
+use Rattle.keeping.proofs.WalkState as T
+use Rattle.keeping.proofs.WalkState.Laws as T′
+use Rattle.keeping.specs.declared.WalkLoad.{WalkLoad}
+use Rattle.keeping.proofs.WalkLoad as S
+use Rattle.keeping.proofs.WalkLoad.Laws as S′
+use Rattle.keeping.proofs.load_walk as load-walk′
+use Rattle.keeping.proofs.load_walk.Symbol as load-walk-def
+use Rattle.keeping.proofs.load_walk.Symbol.{name as #keeping·load-walk}
+use Rattle.keeping.proofs.load_walk.Met as load-walk-thm
 use Rattle.card.proofs.delampuk_load_walk.Key.{name as #card·delampuk-load-walk}
 use Rattle.card.proofs.delampuk_load_walk as delampuk-load-walk′
 use Rattle.card.proofs.delampuk_load_walk.Statement as stated
@@ -145,7 +145,7 @@ module _ {M : Type 1} (𝓤 : URA M) (H : Heap 𝓤) (A : Atoms 𝓤) (W : Given
       move ! (2 ∷ 3 ∷ []) $ join ! $ frame ! $ move ! (2 ∷ []) $ split ! $ fjoin ! $ move ! (1 ∷ 2 ∷ []) $ feqI ! (List Val) (vptr b o ∷ []) (vptr b o ∷ []) refl $ fjoin3 ! $ fjoin ! $ frame ! $
       owned ! u8 (Is u8) (uint-makes 𝓤 H A W w8) (r .answer) _ is $ done !
 
-  module _ (C : Calls 𝓤 H) (Λ : Loops 𝓤 H) (fm : FmC 𝓤 H (W .laws) C) (known : Triple 𝓤 (C #saving·load-walk) (Step 𝓤 H A at-mem run)) where
+  module _ (C : Calls 𝓤 H) (Λ : Loops 𝓤 H) (fm : FmC 𝓤 H (W .laws) C) (known : Triple 𝓤 (C #keeping·load-walk) (Step 𝓤 H A at-mem run)) where
     walk : ent 𝓤 (onEntry 𝓤 H A delampuk-load-walk′.signature (κ, κs) (q, qs) x at) (WpFn 𝓤 H C Λ code.function (vptr b o ∷ s the-saved ∷ []) Post)
     walk =
         qed W ((‵ (flft κ q) ⊛ tokens) ∷ ‵ (owns (MutRef (named 0) κ T.the-row ∷ ShrSlice (named 1) κ-saved u8 ∷ []) x at) ∷ []) ∵ enter ! C Λ code.function (vptr b o ∷ s the-saved ∷ []) _ $
@@ -176,7 +176,7 @@ module _ {M : Type 1} (𝓤 : URA M) (H : Heap 𝓤) (A : Atoms 𝓤) (W : Given
         by ! (exits r e (LL.owed S.the-type S′.the-laws r _ is .1 .0))))))))))))))
 
 module _ {M : Type 1} (𝓤 : URA M) (H : Heap 𝓤) (A : Atoms 𝓤) (W : Given 𝓤 H A) (mem : Memory → SProp 𝓤) (run : Routine → Fun 𝓤) where
-  delampuk-load-walk-walks : (C : Calls 𝓤 H) (Λ : Loops 𝓤 H) → FmC 𝓤 H (W .laws) C → Triple 𝓤 (C #saving·load-walk) (Step 𝓤 H A mem run) → Walks 𝓤 H A delampuk-load-walk′.ended stayed (WpFn 𝓤 H C Λ code.function) (delampuk-load-walk′.clauses 𝓤 H A mem run)
+  delampuk-load-walk-walks : (C : Calls 𝓤 H) (Λ : Loops 𝓤 H) → FmC 𝓤 H (W .laws) C → Triple 𝓤 (C #keeping·load-walk) (Step 𝓤 H A mem run) → Walks 𝓤 H A delampuk-load-walk′.ended stayed (WpFn 𝓤 H C Λ code.function) (delampuk-load-walk′.clauses 𝓤 H A mem run)
   delampuk-load-walk-walks C Λ fm known = walked 𝓤 H A delampuk-load-walk′.ended stayed (delampuk-load-walk′.clauses 𝓤 H A mem run) (WpFn 𝓤 H C Λ code.function)
       (λ κs. (ptr-vals, (slice-vals, tt)))
       (λ κs. (mut-tells (named 0) (κs .0) T.the-row, (shr-slice-tells (named 1) (κs .1 .0) u8, tt)))
@@ -185,7 +185,7 @@ module _ {M : Type 1} (𝓤 : URA M) (H : Heap 𝓤) (A : Atoms 𝓤) (W : Given
   goes : AllGo 𝓤 H A W 2 (delampuk-load-walk′.signature .params) (delampuk-load-walk′.ended .kept) stayed
   goes = (goes-ref 𝓤 H A W 2 0 tt (plain (λ _. T.the-row)), (goes-none-slice 𝓤 H A W 2 (1 ∷ []) tt (plain (λ _. u8)) yes, tt))
 
-delampuk-load-walk-meets : {M : Type 1} (𝓤 : URA M) (H : Heap 𝓤) (A : Atoms 𝓤) → Given 𝓤 H A → (mem : Memory → SProp 𝓤) (run : Routine → Fun 𝓤) (𝓣 : Tables 𝓤 H) → Triple 𝓤 (𝓣 .C #saving·load-walk) (Step 𝓤 H A mem run)
+delampuk-load-walk-meets : {M : Type 1} (𝓤 : URA M) (H : Heap 𝓤) (A : Atoms 𝓤) → Given 𝓤 H A → (mem : Memory → SProp 𝓤) (run : Routine → Fun 𝓤) (𝓣 : Tables 𝓤 H) → Triple 𝓤 (𝓣 .C #keeping·load-walk) (Step 𝓤 H A mem run)
     → Meets 𝓤 H A delampuk-load-walk′.signature (WpFn 𝓤 H (𝓣 .C) (𝓣 .Λ) code.function) (delampuk-load-walk′.spec 𝓤 H A mem run)
 delampuk-load-walk-meets 𝓤 H A W mem run 𝓣 known =
     walk-meets 𝓤 H A delampuk-load-walk′.ended stayed W (goes 𝓤 H A W mem run) (delampuk-load-walk′.clauses 𝓤 H A mem run)
@@ -197,4 +197,4 @@ delampuk-load-walk-spec 𝓤 H 𝓜 𝓖 𝓡 =
     entered 𝓤 H (tripleOf 𝓤 H (𝓖 .A) delampuk-load-walk′.signature (delampuk-load-walk′.spec 𝓤 H (𝓖 .A) (𝓜 .mem) (𝓡 .run)))
     (tables 𝓤 H 𝓜 𝓡 code.env .C) (tables 𝓤 H 𝓜 𝓡 code.env .Λ) #card·delampuk-load-walk code.function (code.unfolded 𝓤 H 𝓜 𝓡)
     (delampuk-load-walk-meets 𝓤 H (𝓖 .A) (givenOf 𝓤 H 𝓜 𝓖) (𝓜 .mem) (𝓡 .run) (tablesOf 𝓤 H 𝓜 (tables 𝓤 H 𝓜 𝓡 code.env))
-    (cited 𝓤 H (Step 𝓤 H (𝓖 .A) (𝓜 .mem) (𝓡 .run)) 𝓜 𝓡 code.env #saving·load-walk load-walk-def.routine code.calls-saving·load-walk (load-walk-thm.met 𝓤 H 𝓜 𝓖 𝓡)))
+    (cited 𝓤 H (Step 𝓤 H (𝓖 .A) (𝓜 .mem) (𝓡 .run)) 𝓜 𝓡 code.env #keeping·load-walk load-walk-def.routine code.calls-keeping·load-walk (load-walk-thm.met 𝓤 H 𝓜 𝓖 𝓡)))

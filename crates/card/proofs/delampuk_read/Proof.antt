@@ -42,11 +42,11 @@ use denote.Triple.Table.{entered, cited}
 use denote.Triple.Walked.{says, Stays, stay-ref, stay-none-slice, gave-slice, walkOf, AllGo, goes-ref, goes-none-slice, goes-gave-slice, Walks, ends-at, walked, walk-meets}
 use denote.Exit.{yes}
 use Rattle.buffers.specs.Buffers.{each}
-use Rattle.reader.specs.Step.{buffersOf}
+use Rattle.reading.specs.Step.{buffersOf}
 use Rattle.calls.specs.Reading.{readTaken}
-use Rattle.track.specs.declared.Reader.{Reader}
-use Rattle.track.proofs.Reader as T
-use Rattle.track.proofs.Reader.Laws as T′
+use Rattle.reader.specs.declared.Reader.{Reader}
+use Rattle.reader.proofs.Reader as T
+use Rattle.reader.proofs.Reader.Laws as T′
 use Rattle.calls.specs.declared.ReadStepped.{ReadStepped}
 use Rattle.calls.proofs.ReadStepped as S
 use Rattle.calls.proofs.ReadStepped.Laws as S′

@@ -41,19 +41,19 @@ use denote.Triple.Table.{entered, cited}
 use denote.Triple.Walked.{says, Stays, stay-ref, stay-none, walkOf, AllGo, goes-ref, goes-none, Walks, ends-at, walked, walk-meets}
 use denote.Exit.{yes}
 use Rattle.buffers.specs.Buffers.{each}
-use Rattle.calls.specs.Presets.{presetTaken}
-use Rattle.control.specs.declared.Sender.{Sender}
-use Rattle.control.proofs.Sender as T
-use Rattle.control.proofs.Sender.Laws as T′
-use Rattle.calls.specs.declared.PresetStepped.{PresetStepped}
-use Rattle.calls.proofs.PresetStepped as S
-use Rattle.calls.proofs.PresetStepped.Laws as S′
-use Rattle.answers.proofs.PresetAnswer as N
-use Rattle.answers.proofs.PresetAnswer.Laws as N′
-use Rattle.calls.proofs.preset_step as preset-step′
-use Rattle.calls.proofs.preset_step.Symbol as preset-step-def
-use Rattle.calls.proofs.preset_step.Symbol.{name as #calls·preset-step}
-use Rattle.calls.proofs.preset_step.Met as preset-step-thm
+use Rattle.presetting.specs.Presetting.{presetTaken}
+use Rattle.sender.specs.declared.Sender.{Sender}
+use Rattle.sender.proofs.Sender as T
+use Rattle.sender.proofs.Sender.Laws as T′
+use Rattle.presetting.specs.declared.PresetStepped.{PresetStepped}
+use Rattle.presetting.proofs.PresetStepped as S
+use Rattle.presetting.proofs.PresetStepped.Laws as S′
+use Rattle.presetting.proofs.PresetAnswer as N
+use Rattle.presetting.proofs.PresetAnswer.Laws as N′
+use Rattle.presetting.proofs.preset_step as preset-step′
+use Rattle.presetting.proofs.preset_step.Symbol as preset-step-def
+use Rattle.presetting.proofs.preset_step.Symbol.{name as #presetting·preset-step}
+use Rattle.presetting.proofs.preset_step.Met as preset-step-thm
 use Rattle.card.proofs.delampuk_read_preset.Key.{name as #card·delampuk-read-preset}
 use Rattle.card.proofs.delampuk_read_preset as delampuk-read-preset′
 use Rattle.card.proofs.delampuk_read_preset.Statement as stated
@@ -139,7 +139,7 @@ module _ {M : Type 1} (𝓤 : URA M) (H : Heap 𝓤) (A : Atoms 𝓤) (W : Given
       move ! (2 ∷ 3 ∷ []) $ join ! $ frame ! $ move ! (2 ∷ []) $ owned ! u16 (Is u16) (uint-makes 𝓤 H A W w16) the-bits _ bits-is $ fjoin ! $ move ! (1 ∷ 2 ∷ []) $ feqI ! (List Val) (vptr b o ∷ []) (vptr b o ∷ []) refl $ fjoin3 ! $ fjoin ! $ frame ! $
       owned ! N.the-row (Is N.the-row) (LL.makes N.the-type N′.the-plain 𝓤 H A) (r .answer) _ is $ done !
 
-  module _ (C : Calls 𝓤 H) (Λ : Loops 𝓤 H) (fm : FmC 𝓤 H (W .laws) C) (known : Triple 𝓤 (C #calls·preset-step) (Step 𝓤 H A at-mem run)) where
+  module _ (C : Calls 𝓤 H) (Λ : Loops 𝓤 H) (fm : FmC 𝓤 H (W .laws) C) (known : Triple 𝓤 (C #presetting·preset-step) (Step 𝓤 H A at-mem run)) where
     walk : ent 𝓤 (onEntry 𝓤 H A delampuk-read-preset′.signature (κ, κs) (q, qs) x at) (WpFn 𝓤 H C Λ code.function (vptr b o ∷ vint w16 the-bits ∷ []) Post)
     walk =
         qed W ((‵ (flft κ q) ⊛ tokens) ∷ ‵ (owns (MutRef (named 0) κ T.the-row ∷ u16 ∷ []) x at) ∷ []) ∵ enter ! C Λ code.function (vptr b o ∷ vint w16 the-bits ∷ []) _ $
@@ -170,7 +170,7 @@ module _ {M : Type 1} (𝓤 : URA M) (H : Heap 𝓤) (A : Atoms 𝓤) (W : Given
         by ! (exits r e (LL.owed S.the-type S′.the-laws r _ is .1 .0))))))))))))))
 
 module _ {M : Type 1} (𝓤 : URA M) (H : Heap 𝓤) (A : Atoms 𝓤) (W : Given 𝓤 H A) (mem : Memory → SProp 𝓤) (run : Routine → Fun 𝓤) where
-  delampuk-read-preset-walks : (C : Calls 𝓤 H) (Λ : Loops 𝓤 H) → FmC 𝓤 H (W .laws) C → Triple 𝓤 (C #calls·preset-step) (Step 𝓤 H A mem run) → Walks 𝓤 H A delampuk-read-preset′.ended stayed (WpFn 𝓤 H C Λ code.function) (delampuk-read-preset′.clauses 𝓤 H A mem run)
+  delampuk-read-preset-walks : (C : Calls 𝓤 H) (Λ : Loops 𝓤 H) → FmC 𝓤 H (W .laws) C → Triple 𝓤 (C #presetting·preset-step) (Step 𝓤 H A mem run) → Walks 𝓤 H A delampuk-read-preset′.ended stayed (WpFn 𝓤 H C Λ code.function) (delampuk-read-preset′.clauses 𝓤 H A mem run)
   delampuk-read-preset-walks C Λ fm known = walked 𝓤 H A delampuk-read-preset′.ended stayed (delampuk-read-preset′.clauses 𝓤 H A mem run) (WpFn 𝓤 H C Λ code.function)
       (λ κs. (ptr-vals, (uint-vals w16, tt)))
       (λ κs. (mut-tells (named 0) (κs .0) T.the-row, (uint-tells w16, tt)))
@@ -179,7 +179,7 @@ module _ {M : Type 1} (𝓤 : URA M) (H : Heap 𝓤) (A : Atoms 𝓤) (W : Given
   goes : AllGo 𝓤 H A W 1 (delampuk-read-preset′.signature .params) (delampuk-read-preset′.ended .kept) stayed
   goes = (goes-ref 𝓤 H A W 1 0 tt (plain (λ _. T.the-row)), (goes-none 𝓤 H A W 1 (λ _. u16) yes (λ κs x f. refl), tt))
 
-delampuk-read-preset-meets : {M : Type 1} (𝓤 : URA M) (H : Heap 𝓤) (A : Atoms 𝓤) → Given 𝓤 H A → (mem : Memory → SProp 𝓤) (run : Routine → Fun 𝓤) (𝓣 : Tables 𝓤 H) → Triple 𝓤 (𝓣 .C #calls·preset-step) (Step 𝓤 H A mem run)
+delampuk-read-preset-meets : {M : Type 1} (𝓤 : URA M) (H : Heap 𝓤) (A : Atoms 𝓤) → Given 𝓤 H A → (mem : Memory → SProp 𝓤) (run : Routine → Fun 𝓤) (𝓣 : Tables 𝓤 H) → Triple 𝓤 (𝓣 .C #presetting·preset-step) (Step 𝓤 H A mem run)
     → Meets 𝓤 H A delampuk-read-preset′.signature (WpFn 𝓤 H (𝓣 .C) (𝓣 .Λ) code.function) (delampuk-read-preset′.spec 𝓤 H A mem run)
 delampuk-read-preset-meets 𝓤 H A W mem run 𝓣 known =
     walk-meets 𝓤 H A delampuk-read-preset′.ended stayed W (goes 𝓤 H A W mem run) (delampuk-read-preset′.clauses 𝓤 H A mem run)
@@ -191,4 +191,4 @@ delampuk-read-preset-spec 𝓤 H 𝓜 𝓖 𝓡 =
     entered 𝓤 H (tripleOf 𝓤 H (𝓖 .A) delampuk-read-preset′.signature (delampuk-read-preset′.spec 𝓤 H (𝓖 .A) (𝓜 .mem) (𝓡 .run)))
     (tables 𝓤 H 𝓜 𝓡 code.env .C) (tables 𝓤 H 𝓜 𝓡 code.env .Λ) #card·delampuk-read-preset code.function (code.unfolded 𝓤 H 𝓜 𝓡)
     (delampuk-read-preset-meets 𝓤 H (𝓖 .A) (givenOf 𝓤 H 𝓜 𝓖) (𝓜 .mem) (𝓡 .run) (tablesOf 𝓤 H 𝓜 (tables 𝓤 H 𝓜 𝓡 code.env))
-    (cited 𝓤 H (Step 𝓤 H (𝓖 .A) (𝓜 .mem) (𝓡 .run)) 𝓜 𝓡 code.env #calls·preset-step preset-step-def.routine code.calls-calls·preset-step (preset-step-thm.met 𝓤 H 𝓜 𝓖 𝓡)))
+    (cited 𝓤 H (Step 𝓤 H (𝓖 .A) (𝓜 .mem) (𝓡 .run)) 𝓜 𝓡 code.env #presetting·preset-step preset-step-def.routine code.calls-presetting·preset-step (preset-step-thm.met 𝓤 H 𝓜 𝓖 𝓡)))

@@ -43,9 +43,9 @@ use denote.Triple.Walked.{says, Stays, stay-none-ref, gave-slice, walkOf, AllGo,
 use denote.Exit.{yes}
 use Rattle.buffers.specs.Buffers.{each}
 use Rattle.saving.specs.Saved.{readerSaved, readerKept}
-use Rattle.track.specs.declared.Reader.{Reader}
-use Rattle.track.proofs.Reader as T
-use Rattle.track.proofs.Reader.Laws as T′
+use Rattle.reader.specs.declared.Reader.{Reader}
+use Rattle.reader.proofs.Reader as T
+use Rattle.reader.proofs.Reader.Laws as T′
 use Rattle.saving.proofs.save_reader as save-reader′
 use Rattle.saving.proofs.save_reader.Symbol as save-reader-def
 use Rattle.saving.proofs.save_reader.Symbol.{name as #saving·save-reader}

@@ -43,9 +43,9 @@ use denote.Triple.Walked.{says, Stays, stay-none-ref, gave-slice, walkOf, AllGo,
 use denote.Exit.{yes}
 use Rattle.buffers.specs.Buffers.{each}
 use Rattle.saving.specs.Saved.{senderSaved, senderKept}
-use Rattle.control.specs.declared.Sender.{Sender}
-use Rattle.control.proofs.Sender as T
-use Rattle.control.proofs.Sender.Laws as T′
+use Rattle.sender.specs.declared.Sender.{Sender}
+use Rattle.sender.proofs.Sender as T
+use Rattle.sender.proofs.Sender.Laws as T′
 use Rattle.saving.proofs.save_sender as save-sender′
 use Rattle.saving.proofs.save_sender.Symbol as save-sender-def
 use Rattle.saving.proofs.save_sender.Symbol.{name as #saving·save-sender}

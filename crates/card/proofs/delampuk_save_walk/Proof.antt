@@ -42,14 +42,14 @@ use denote.Triple.Table.{entered, cited}
 use denote.Triple.Walked.{says, Stays, stay-none-ref, gave-slice, walkOf, AllGo, goes-none-ref, goes-gave-slice, Walks, ends-at, walked, walk-meets}
 use denote.Exit.{yes}
 use Rattle.buffers.specs.Buffers.{each}
-use Rattle.saving.specs.Saved.{walkSaved, walkKept}
-use Rattle.saving.specs.declared.WalkState.{WalkState}
-use Rattle.saving.proofs.WalkState as T
-use Rattle.saving.proofs.WalkState.Laws as T′
-use Rattle.saving.proofs.save_walk as save-walk′
-use Rattle.saving.proofs.save_walk.Symbol as save-walk-def
-use Rattle.saving.proofs.save_walk.Symbol.{name as #saving·save-walk}
-use Rattle.saving.proofs.save_walk.Met as save-walk-thm
+use Rattle.keeping.specs.SavedWalk.{walkSaved, walkKept}
+use Rattle.keeping.specs.declared.WalkState.{WalkState}
+use Rattle.keeping.proofs.WalkState as T
+use Rattle.keeping.proofs.WalkState.Laws as T′
+use Rattle.keeping.proofs.save_walk as save-walk′
+use Rattle.keeping.proofs.save_walk.Symbol as save-walk-def
+use Rattle.keeping.proofs.save_walk.Symbol.{name as #keeping·save-walk}
+use Rattle.keeping.proofs.save_walk.Met as save-walk-thm
 use Rattle.card.proofs.delampuk_save_walk.Key.{name as #card·delampuk-save-walk}
 use Rattle.card.proofs.delampuk_save_walk as delampuk-save-walk′
 use Rattle.card.proofs.delampuk_save_walk.Statement as stated
@@ -138,7 +138,7 @@ module _ {M : Type 1} (𝓤 : URA M) (H : Heap 𝓤) (A : Atoms 𝓤) (W : Given
       move ! (2 ∷ 3 ∷ []) $ join ! $ frame ! $ move ! (2 ∷ 3 ∷ []) $ fjoin ! $ move ! (1 ∷ 2 ∷ []) $ feqI ! (List Val) (vptr b o ∷ []) (vptr b o ∷ []) refl $ fjoin3 ! $ fjoin ! $ frame ! $
       owned ! u8 (Is u8) (uint-makes 𝓤 H A W w8) (r) _ is $ done !
 
-  module _ (C : Calls 𝓤 H) (Λ : Loops 𝓤 H) (fm : FmC 𝓤 H (W .laws) C) (known : Triple 𝓤 (C #saving·save-walk) (Step 𝓤 H A at-mem run)) where
+  module _ (C : Calls 𝓤 H) (Λ : Loops 𝓤 H) (fm : FmC 𝓤 H (W .laws) C) (known : Triple 𝓤 (C #keeping·save-walk) (Step 𝓤 H A at-mem run)) where
     walk : ent 𝓤 (onEntry 𝓤 H A delampuk-save-walk′.signature (κ, κs) (q, qs) x at) (WpFn 𝓤 H C Λ code.function (vptr b o ∷ s the-saved ∷ []) Post)
     walk =
         qed W ((‵ (flft κ q) ⊛ tokens) ∷ ‵ (owns (ShrRef (named 0) κ T.the-row ∷ MutSlice (named 1) κ-saved u8 ∷ []) x at) ∷ []) ∵ enter ! C Λ code.function (vptr b o ∷ s the-saved ∷ []) _ $
@@ -168,7 +168,7 @@ module _ {M : Type 1} (𝓤 : URA M) (H : Heap 𝓤) (A : Atoms 𝓤) (W : Given
         move ! (5 ∷ 4 ∷ 3 ∷ 0 ∷ 1 ∷ 2 ∷ []) $ by ! (exits r (zs .1 .0) e l-saved (subst (Is u8 r) (uint-tells w8 r _ is) is))))))))))))))))
 
 module _ {M : Type 1} (𝓤 : URA M) (H : Heap 𝓤) (A : Atoms 𝓤) (W : Given 𝓤 H A) (mem : Memory → SProp 𝓤) (run : Routine → Fun 𝓤) where
-  delampuk-save-walk-walks : (C : Calls 𝓤 H) (Λ : Loops 𝓤 H) → FmC 𝓤 H (W .laws) C → Triple 𝓤 (C #saving·save-walk) (Step 𝓤 H A mem run) → Walks 𝓤 H A delampuk-save-walk′.ended stayed (WpFn 𝓤 H C Λ code.function) (delampuk-save-walk′.clauses 𝓤 H A mem run)
+  delampuk-save-walk-walks : (C : Calls 𝓤 H) (Λ : Loops 𝓤 H) → FmC 𝓤 H (W .laws) C → Triple 𝓤 (C #keeping·save-walk) (Step 𝓤 H A mem run) → Walks 𝓤 H A delampuk-save-walk′.ended stayed (WpFn 𝓤 H C Λ code.function) (delampuk-save-walk′.clauses 𝓤 H A mem run)
   delampuk-save-walk-walks C Λ fm known = walked 𝓤 H A delampuk-save-walk′.ended stayed (delampuk-save-walk′.clauses 𝓤 H A mem run) (WpFn 𝓤 H C Λ code.function)
       (λ κs. (ptr-vals, (slice-vals, tt)))
       (λ κs. (shr-tells (named 0) (κs .0) T.the-row, (mut-slice-tells (named 1) (κs .1 .0) u8, tt)))
@@ -177,7 +177,7 @@ module _ {M : Type 1} (𝓤 : URA M) (H : Heap 𝓤) (A : Atoms 𝓤) (W : Given
   goes : AllGo 𝓤 H A W 2 (delampuk-save-walk′.signature .params) (delampuk-save-walk′.ended .kept) stayed
   goes = (goes-none-ref 𝓤 H A W 2 (0 ∷ []) tt (plain (λ _. T.the-row)) yes, (goes-gave-slice 𝓤 H A W 2 1 tt (plain (λ _. u8)), tt))
 
-delampuk-save-walk-meets : {M : Type 1} (𝓤 : URA M) (H : Heap 𝓤) (A : Atoms 𝓤) → Given 𝓤 H A → (mem : Memory → SProp 𝓤) (run : Routine → Fun 𝓤) (𝓣 : Tables 𝓤 H) → Triple 𝓤 (𝓣 .C #saving·save-walk) (Step 𝓤 H A mem run)
+delampuk-save-walk-meets : {M : Type 1} (𝓤 : URA M) (H : Heap 𝓤) (A : Atoms 𝓤) → Given 𝓤 H A → (mem : Memory → SProp 𝓤) (run : Routine → Fun 𝓤) (𝓣 : Tables 𝓤 H) → Triple 𝓤 (𝓣 .C #keeping·save-walk) (Step 𝓤 H A mem run)
     → Meets 𝓤 H A delampuk-save-walk′.signature (WpFn 𝓤 H (𝓣 .C) (𝓣 .Λ) code.function) (delampuk-save-walk′.spec 𝓤 H A mem run)
 delampuk-save-walk-meets 𝓤 H A W mem run 𝓣 known =
     walk-meets 𝓤 H A delampuk-save-walk′.ended stayed W (goes 𝓤 H A W mem run) (delampuk-save-walk′.clauses 𝓤 H A mem run)
@@ -189,4 +189,4 @@ delampuk-save-walk-spec 𝓤 H 𝓜 𝓖 𝓡 =
     entered 𝓤 H (tripleOf 𝓤 H (𝓖 .A) delampuk-save-walk′.signature (delampuk-save-walk′.spec 𝓤 H (𝓖 .A) (𝓜 .mem) (𝓡 .run)))
     (tables 𝓤 H 𝓜 𝓡 code.env .C) (tables 𝓤 H 𝓜 𝓡 code.env .Λ) #card·delampuk-save-walk code.function (code.unfolded 𝓤 H 𝓜 𝓡)
     (delampuk-save-walk-meets 𝓤 H (𝓖 .A) (givenOf 𝓤 H 𝓜 𝓖) (𝓜 .mem) (𝓡 .run) (tablesOf 𝓤 H 𝓜 (tables 𝓤 H 𝓜 𝓡 code.env))
-    (cited 𝓤 H (Step 𝓤 H (𝓖 .A) (𝓜 .mem) (𝓡 .run)) 𝓜 𝓡 code.env #saving·save-walk save-walk-def.routine code.calls-saving·save-walk (save-walk-thm.met 𝓤 H 𝓜 𝓖 𝓡)))
+    (cited 𝓤 H (Step 𝓤 H (𝓖 .A) (𝓜 .mem) (𝓡 .run)) 𝓜 𝓡 code.env #keeping·save-walk save-walk-def.routine code.calls-keeping·save-walk (save-walk-thm.met 𝓤 H 𝓜 𝓖 𝓡)))

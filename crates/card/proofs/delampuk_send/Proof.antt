@@ -43,11 +43,11 @@ use denote.Triple.Table.{entered, cited}
 use denote.Triple.Walked.{says, Stays, stay-ref, stay-none, stay-none-slice, gave-slice, walkOf, AllGo, goes-ref, goes-none, goes-none-slice, goes-gave-slice, Walks, ends-at, walked, walk-meets}
 use denote.Exit.{yes}
 use Rattle.buffers.specs.Buffers.{each}
-use Rattle.sender.specs.Step.{lineOf}
+use Rattle.sending.specs.Step.{lineOf}
 use Rattle.calls.specs.Sending.{callOf, sent}
-use Rattle.control.specs.declared.Sender.{Sender}
-use Rattle.control.proofs.Sender as T
-use Rattle.control.proofs.Sender.Laws as T′
+use Rattle.sender.specs.declared.Sender.{Sender}
+use Rattle.sender.proofs.Sender as T
+use Rattle.sender.proofs.Sender.Laws as T′
 use Rattle.calls.specs.declared.SendStepped.{SendStepped}
 use Rattle.calls.proofs.SendStepped as S
 use Rattle.calls.proofs.SendStepped.Laws as S′

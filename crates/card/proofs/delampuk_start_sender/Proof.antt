@@ -38,14 +38,14 @@ use denote.Triple.Table.{entered, cited}
 use denote.Triple.Walked.{says, Stays, stay-ref, walkOf, AllGo, goes-ref, Walks, ends-at, walked, walk-meets}
 use Rattle.buffers.specs.Buffers.{each}
 use Rattle.modes.specs.Modes.{audioOff}
-use Rattle.control.specs.State.{freshWith}
-use Rattle.control.specs.declared.Sender.{Sender}
-use Rattle.control.proofs.Sender as T
-use Rattle.control.proofs.Sender.Laws as T′
-use Rattle.control.proofs.fresh as fresh′
-use Rattle.control.proofs.fresh.Symbol as fresh-def
-use Rattle.control.proofs.fresh.Symbol.{name as #control·fresh}
-use Rattle.control.proofs.fresh.Met as fresh-thm
+use Rattle.sender.specs.State.{freshWith}
+use Rattle.sender.specs.declared.Sender.{Sender}
+use Rattle.sender.proofs.Sender as T
+use Rattle.sender.proofs.Sender.Laws as T′
+use Rattle.sender.proofs.fresh as fresh′
+use Rattle.sender.proofs.fresh.Symbol as fresh-def
+use Rattle.sender.proofs.fresh.Symbol.{name as #sender·fresh}
+use Rattle.sender.proofs.fresh.Met as fresh-thm
 use Rattle.card.proofs.delampuk_start_sender.Key.{name as #card·delampuk-start-sender}
 use Rattle.card.proofs.delampuk_start_sender as delampuk-start-sender′
 use Rattle.card.proofs.delampuk_start_sender.Statement as stated
@@ -131,7 +131,7 @@ module _ {M : Type 1} (𝓤 : URA M) (H : Heap 𝓤) (A : Atoms 𝓤) (W : Given
       move ! (2 ∷ 3 ∷ []) $ join ! $ frame ! $ feqI ! (List Val) (vptr b o ∷ []) (vptr b o ∷ []) refl $ fjoin3 ! $ fjoin ! $ frame ! $
       feqI ! (List Val) (vunit ∷ []) (vunit ∷ []) refl $ done !
 
-  module _ (C : Calls 𝓤 H) (Λ : Loops 𝓤 H) (fm : FmC 𝓤 H (W .laws) C) (known : Triple 𝓤 (C #control·fresh) (Step 𝓤 H A at-mem run)) where
+  module _ (C : Calls 𝓤 H) (Λ : Loops 𝓤 H) (fm : FmC 𝓤 H (W .laws) C) (known : Triple 𝓤 (C #sender·fresh) (Step 𝓤 H A at-mem run)) where
     walk : ent 𝓤 (onEntry 𝓤 H A delampuk-start-sender′.signature (κ, κs) (q, qs) x at) (WpFn 𝓤 H C Λ code.function (vptr b o ∷ []) Post)
     walk =
         qed W ((‵ (flft κ q) ⊛ tokens) ∷ ‵ (owns (MutRef (named 0) κ T.the-row ∷ []) x at) ∷ []) ∵ enter ! C Λ code.function (vptr b o ∷ []) _ $
@@ -160,7 +160,7 @@ module _ {M : Type 1} (𝓤 : URA M) (H : Heap 𝓤) (A : Atoms 𝓤) (W : Given
         by ! (exits r e))))))))))
 
 module _ {M : Type 1} (𝓤 : URA M) (H : Heap 𝓤) (A : Atoms 𝓤) (W : Given 𝓤 H A) (mem : Memory → SProp 𝓤) (run : Routine → Fun 𝓤) where
-  delampuk-start-sender-walks : (C : Calls 𝓤 H) (Λ : Loops 𝓤 H) → FmC 𝓤 H (W .laws) C → Triple 𝓤 (C #control·fresh) (Step 𝓤 H A mem run) → Walks 𝓤 H A delampuk-start-sender′.ended stayed (WpFn 𝓤 H C Λ code.function) (delampuk-start-sender′.clauses 𝓤 H A mem run)
+  delampuk-start-sender-walks : (C : Calls 𝓤 H) (Λ : Loops 𝓤 H) → FmC 𝓤 H (W .laws) C → Triple 𝓤 (C #sender·fresh) (Step 𝓤 H A mem run) → Walks 𝓤 H A delampuk-start-sender′.ended stayed (WpFn 𝓤 H C Λ code.function) (delampuk-start-sender′.clauses 𝓤 H A mem run)
   delampuk-start-sender-walks C Λ fm known = walked 𝓤 H A delampuk-start-sender′.ended stayed (delampuk-start-sender′.clauses 𝓤 H A mem run) (WpFn 𝓤 H C Λ code.function)
       (λ κs. (ptr-vals, tt))
       (λ κs. (mut-tells (named 0) (κs .0) T.the-row, tt))
@@ -169,7 +169,7 @@ module _ {M : Type 1} (𝓤 : URA M) (H : Heap 𝓤) (A : Atoms 𝓤) (W : Given
   goes : AllGo 𝓤 H A W 1 (delampuk-start-sender′.signature .params) (delampuk-start-sender′.ended .kept) stayed
   goes = (goes-ref 𝓤 H A W 1 0 tt (plain (λ _. T.the-row)), tt)
 
-delampuk-start-sender-meets : {M : Type 1} (𝓤 : URA M) (H : Heap 𝓤) (A : Atoms 𝓤) → Given 𝓤 H A → (mem : Memory → SProp 𝓤) (run : Routine → Fun 𝓤) (𝓣 : Tables 𝓤 H) → Triple 𝓤 (𝓣 .C #control·fresh) (Step 𝓤 H A mem run)
+delampuk-start-sender-meets : {M : Type 1} (𝓤 : URA M) (H : Heap 𝓤) (A : Atoms 𝓤) → Given 𝓤 H A → (mem : Memory → SProp 𝓤) (run : Routine → Fun 𝓤) (𝓣 : Tables 𝓤 H) → Triple 𝓤 (𝓣 .C #sender·fresh) (Step 𝓤 H A mem run)
     → Meets 𝓤 H A delampuk-start-sender′.signature (WpFn 𝓤 H (𝓣 .C) (𝓣 .Λ) code.function) (delampuk-start-sender′.spec 𝓤 H A mem run)
 delampuk-start-sender-meets 𝓤 H A W mem run 𝓣 known =
     walk-meets 𝓤 H A delampuk-start-sender′.ended stayed W (goes 𝓤 H A W mem run) (delampuk-start-sender′.clauses 𝓤 H A mem run)
@@ -181,4 +181,4 @@ delampuk-start-sender-spec 𝓤 H 𝓜 𝓖 𝓡 =
     entered 𝓤 H (tripleOf 𝓤 H (𝓖 .A) delampuk-start-sender′.signature (delampuk-start-sender′.spec 𝓤 H (𝓖 .A) (𝓜 .mem) (𝓡 .run)))
     (tables 𝓤 H 𝓜 𝓡 code.env .C) (tables 𝓤 H 𝓜 𝓡 code.env .Λ) #card·delampuk-start-sender code.function (code.unfolded 𝓤 H 𝓜 𝓡)
     (delampuk-start-sender-meets 𝓤 H (𝓖 .A) (givenOf 𝓤 H 𝓜 𝓖) (𝓜 .mem) (𝓡 .run) (tablesOf 𝓤 H 𝓜 (tables 𝓤 H 𝓜 𝓡 code.env))
-    (cited 𝓤 H (Step 𝓤 H (𝓖 .A) (𝓜 .mem) (𝓡 .run)) 𝓜 𝓡 code.env #control·fresh fresh-def.routine code.calls-control·fresh (fresh-thm.met 𝓤 H 𝓜 𝓖 𝓡)))
+    (cited 𝓤 H (Step 𝓤 H (𝓖 .A) (𝓜 .mem) (𝓡 .run)) 𝓜 𝓡 code.env #sender·fresh fresh-def.routine code.calls-sender·fresh (fresh-thm.met 𝓤 H 𝓜 𝓖 𝓡)))

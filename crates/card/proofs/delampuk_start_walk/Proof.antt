@@ -41,9 +41,9 @@ use denote.Triple.Walked.{says, Stays, stay-ref, stay-none, walkOf, AllGo, goes-
 use denote.Exit.{yes}
 use Rattle.buffers.specs.Buffers.{each}
 use Rattle.calls.specs.Walking.{walkFrom}
-use Rattle.saving.specs.declared.WalkState.{WalkState}
-use Rattle.saving.proofs.WalkState as T
-use Rattle.saving.proofs.WalkState.Laws as T′
+use Rattle.keeping.specs.declared.WalkState.{WalkState}
+use Rattle.keeping.proofs.WalkState as T
+use Rattle.keeping.proofs.WalkState.Laws as T′
 use Rattle.calls.proofs.walk_from as walk-from′
 use Rattle.calls.proofs.walk_from.Symbol as walk-from-def
 use Rattle.calls.proofs.walk_from.Symbol.{name as #calls·walk-from}

@@ -43,9 +43,9 @@ use denote.Triple.Walked.{says, Stays, stay-ref, stay-none-slice, gave-slice, wa
 use denote.Exit.{yes}
 use Rattle.buffers.specs.Buffers.{each}
 use Rattle.calls.specs.Walking.{stepTaken, stepBuffers}
-use Rattle.saving.specs.declared.WalkState.{WalkState}
-use Rattle.saving.proofs.WalkState as T
-use Rattle.saving.proofs.WalkState.Laws as T′
+use Rattle.keeping.specs.declared.WalkState.{WalkState}
+use Rattle.keeping.proofs.WalkState as T
+use Rattle.keeping.proofs.WalkState.Laws as T′
 use Rattle.calls.specs.declared.WalkStepped.{WalkStepped}
 use Rattle.calls.proofs.WalkStepped as S
 use Rattle.calls.proofs.WalkStepped.Laws as S′

@@ -39,9 +39,9 @@ use denote.Triple.Walked.{says, Stays, stay-none-ref, walkOf, AllGo, goes-none-r
 use denote.Exit.{yes}
 use Rattle.buffers.specs.Buffers.{each}
 use Rattle.asking.specs.Asked.{readerTold}
-use Rattle.track.specs.declared.Reader.{Reader}
-use Rattle.track.proofs.Reader as T
-use Rattle.track.proofs.Reader.Laws as T′
+use Rattle.reader.specs.declared.Reader.{Reader}
+use Rattle.reader.proofs.Reader as T
+use Rattle.reader.proofs.Reader.Laws as T′
 use Rattle.asking.specs.declared.ReaderTold.{ReaderTold}
 use Rattle.asking.proofs.ReaderTold as N
 use Rattle.asking.proofs.ReaderTold.Laws as N′

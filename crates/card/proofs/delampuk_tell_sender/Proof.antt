@@ -39,9 +39,9 @@ use denote.Triple.Walked.{says, Stays, stay-none-ref, walkOf, AllGo, goes-none-r
 use denote.Exit.{yes}
 use Rattle.buffers.specs.Buffers.{each}
 use Rattle.asking.specs.Asked.{senderTold}
-use Rattle.control.specs.declared.Sender.{Sender}
-use Rattle.control.proofs.Sender as T
-use Rattle.control.proofs.Sender.Laws as T′
+use Rattle.sender.specs.declared.Sender.{Sender}
+use Rattle.sender.proofs.Sender as T
+use Rattle.sender.proofs.Sender.Laws as T′
 use Rattle.asking.specs.declared.SenderTold.{SenderTold}
 use Rattle.asking.proofs.SenderTold as N
 use Rattle.asking.proofs.SenderTold.Laws as N′

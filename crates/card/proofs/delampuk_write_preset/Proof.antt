@@ -38,17 +38,17 @@ use denote.Triple.Table.{entered, cited}
 use denote.Triple.Walked.{says, Stays, stay-none-ref, walkOf, AllGo, goes-none-ref, Walks, ends-at, walked, walk-meets}
 use denote.Exit.{yes}
 use Rattle.buffers.specs.Buffers.{each}
-use Rattle.calls.specs.Presets.{presetGiven}
-use Rattle.control.specs.declared.Sender.{Sender}
-use Rattle.control.proofs.Sender as T
-use Rattle.control.proofs.Sender.Laws as T′
-use Rattle.answers.specs.declared.PresetBits.{PresetBits}
-use Rattle.answers.proofs.PresetBits as N
-use Rattle.answers.proofs.PresetBits.Laws as N′
-use Rattle.calls.proofs.preset_of as preset-of′
-use Rattle.calls.proofs.preset_of.Symbol as preset-of-def
-use Rattle.calls.proofs.preset_of.Symbol.{name as #calls·preset-of}
-use Rattle.calls.proofs.preset_of.Met as preset-of-thm
+use Rattle.presetting.specs.Presetting.{presetGiven}
+use Rattle.sender.specs.declared.Sender.{Sender}
+use Rattle.sender.proofs.Sender as T
+use Rattle.sender.proofs.Sender.Laws as T′
+use Rattle.presetting.specs.declared.PresetBits.{PresetBits}
+use Rattle.presetting.proofs.PresetBits as N
+use Rattle.presetting.proofs.PresetBits.Laws as N′
+use Rattle.presetting.proofs.preset_of as preset-of′
+use Rattle.presetting.proofs.preset_of.Symbol as preset-of-def
+use Rattle.presetting.proofs.preset_of.Symbol.{name as #presetting·preset-of}
+use Rattle.presetting.proofs.preset_of.Met as preset-of-thm
 use Rattle.card.proofs.delampuk_write_preset.Key.{name as #card·delampuk-write-preset}
 use Rattle.card.proofs.delampuk_write_preset as delampuk-write-preset′
 use Rattle.card.proofs.delampuk_write_preset.Statement as stated
@@ -134,7 +134,7 @@ module _ {M : Type 1} (𝓤 : URA M) (H : Heap 𝓤) (A : Atoms 𝓤) (W : Given
       move ! (2 ∷ 3 ∷ []) $ join ! $ frame ! $ feqI ! (List Val) (vptr b o ∷ []) (vptr b o ∷ []) refl $ fjoin3 ! $ fjoin ! $ frame ! $
       owned ! N.the-row (Is N.the-row) (LL.makes N.the-type N′.the-plain 𝓤 H A) (r) _ is $ done !
 
-  module _ (C : Calls 𝓤 H) (Λ : Loops 𝓤 H) (fm : FmC 𝓤 H (W .laws) C) (known : Triple 𝓤 (C #calls·preset-of) (Step 𝓤 H A at-mem run)) where
+  module _ (C : Calls 𝓤 H) (Λ : Loops 𝓤 H) (fm : FmC 𝓤 H (W .laws) C) (known : Triple 𝓤 (C #presetting·preset-of) (Step 𝓤 H A at-mem run)) where
     walk : ent 𝓤 (onEntry 𝓤 H A delampuk-write-preset′.signature (κ, κs) (q, qs) x at) (WpFn 𝓤 H C Λ code.function (vptr b o ∷ []) Post)
     walk =
         qed W ((‵ (flft κ q) ⊛ tokens) ∷ ‵ (owns (ShrRef (named 0) κ T.the-row ∷ []) x at) ∷ []) ∵ enter ! C Λ code.function (vptr b o ∷ []) _ $
@@ -162,7 +162,7 @@ module _ {M : Type 1} (𝓤 : URA M) (H : Heap 𝓤) (A : Atoms 𝓤) (W : Given
         move ! (4 ∷ 3 ∷ 2 ∷ 0 ∷ 1 ∷ []) $ by ! (exits r e (subst (Is N.the-row r) (LL.tells N.the-type N′.the-laws r _ is) is))))))))))))
 
 module _ {M : Type 1} (𝓤 : URA M) (H : Heap 𝓤) (A : Atoms 𝓤) (W : Given 𝓤 H A) (mem : Memory → SProp 𝓤) (run : Routine → Fun 𝓤) where
-  delampuk-write-preset-walks : (C : Calls 𝓤 H) (Λ : Loops 𝓤 H) → FmC 𝓤 H (W .laws) C → Triple 𝓤 (C #calls·preset-of) (Step 𝓤 H A mem run) → Walks 𝓤 H A delampuk-write-preset′.ended stayed (WpFn 𝓤 H C Λ code.function) (delampuk-write-preset′.clauses 𝓤 H A mem run)
+  delampuk-write-preset-walks : (C : Calls 𝓤 H) (Λ : Loops 𝓤 H) → FmC 𝓤 H (W .laws) C → Triple 𝓤 (C #presetting·preset-of) (Step 𝓤 H A mem run) → Walks 𝓤 H A delampuk-write-preset′.ended stayed (WpFn 𝓤 H C Λ code.function) (delampuk-write-preset′.clauses 𝓤 H A mem run)
   delampuk-write-preset-walks C Λ fm known = walked 𝓤 H A delampuk-write-preset′.ended stayed (delampuk-write-preset′.clauses 𝓤 H A mem run) (WpFn 𝓤 H C Λ code.function)
       (λ κs. (ptr-vals, tt))
       (λ κs. (shr-tells (named 0) (κs .0) T.the-row, tt))
@@ -171,7 +171,7 @@ module _ {M : Type 1} (𝓤 : URA M) (H : Heap 𝓤) (A : Atoms 𝓤) (W : Given
   goes : AllGo 𝓤 H A W 1 (delampuk-write-preset′.signature .params) (delampuk-write-preset′.ended .kept) stayed
   goes = (goes-none-ref 𝓤 H A W 1 (0 ∷ []) tt (plain (λ _. T.the-row)) yes, tt)
 
-delampuk-write-preset-meets : {M : Type 1} (𝓤 : URA M) (H : Heap 𝓤) (A : Atoms 𝓤) → Given 𝓤 H A → (mem : Memory → SProp 𝓤) (run : Routine → Fun 𝓤) (𝓣 : Tables 𝓤 H) → Triple 𝓤 (𝓣 .C #calls·preset-of) (Step 𝓤 H A mem run)
+delampuk-write-preset-meets : {M : Type 1} (𝓤 : URA M) (H : Heap 𝓤) (A : Atoms 𝓤) → Given 𝓤 H A → (mem : Memory → SProp 𝓤) (run : Routine → Fun 𝓤) (𝓣 : Tables 𝓤 H) → Triple 𝓤 (𝓣 .C #presetting·preset-of) (Step 𝓤 H A mem run)
     → Meets 𝓤 H A delampuk-write-preset′.signature (WpFn 𝓤 H (𝓣 .C) (𝓣 .Λ) code.function) (delampuk-write-preset′.spec 𝓤 H A mem run)
 delampuk-write-preset-meets 𝓤 H A W mem run 𝓣 known =
     walk-meets 𝓤 H A delampuk-write-preset′.ended stayed W (goes 𝓤 H A W mem run) (delampuk-write-preset′.clauses 𝓤 H A mem run)
@@ -183,4 +183,4 @@ delampuk-write-preset-spec 𝓤 H 𝓜 𝓖 𝓡 =
     entered 𝓤 H (tripleOf 𝓤 H (𝓖 .A) delampuk-write-preset′.signature (delampuk-write-preset′.spec 𝓤 H (𝓖 .A) (𝓜 .mem) (𝓡 .run)))
     (tables 𝓤 H 𝓜 𝓡 code.env .C) (tables 𝓤 H 𝓜 𝓡 code.env .Λ) #card·delampuk-write-preset code.function (code.unfolded 𝓤 H 𝓜 𝓡)
     (delampuk-write-preset-meets 𝓤 H (𝓖 .A) (givenOf 𝓤 H 𝓜 𝓖) (𝓜 .mem) (𝓡 .run) (tablesOf 𝓤 H 𝓜 (tables 𝓤 H 𝓜 𝓡 code.env))
-    (cited 𝓤 H (Step 𝓤 H (𝓖 .A) (𝓜 .mem) (𝓡 .run)) 𝓜 𝓡 code.env #calls·preset-of preset-of-def.routine code.calls-calls·preset-of (preset-of-thm.met 𝓤 H 𝓜 𝓖 𝓡)))
+    (cited 𝓤 H (Step 𝓤 H (𝓖 .A) (𝓜 .mem) (𝓡 .run)) 𝓜 𝓡 code.env #presetting·preset-of preset-of-def.routine code.calls-presetting·preset-of (preset-of-thm.met 𝓤 H 𝓜 𝓖 𝓡)))

@@ -4,8 +4,8 @@ use Prim.Native.Nat.{ℕ}
 use native.Mathlib.Omega.{arith}
 use Rattle.bits.specs.Bits.{lowBits, number}
 use Rattle.bas.specs.Words.{lineOrder}
-use Rattle.modes.specs.declared.FrameNumber.{FrameNumber}
-use Rattle.modes.specs.Numbers.{evenFrame, oddFrame}
+use Rattle.numbers.specs.declared.FrameNumber.{FrameNumber}
+use Rattle.numbers.specs.Numbers.{evenFrame, oddFrame}
 use Rattle.frame.proofs.BlockLaws.{service-is}
 use borrow.Author.Needs.{needs}
 use Rattle.frame.proofs.service_of.Statement.{statement}

@@ -2,8 +2,8 @@
 use mathlib.Core.Path.{sym, ap, _∙_, subst⁻¹}
 use native.Mathlib.Omega.{arith}
 use Rattle.modes.specs.Owners.{bitsPerFrame}
-use Rattle.modes.proofs.TableLaws.{Fit, held-fit}
-use Rattle.modes.proofs.OwnerLaws.{bits-per-frame-is}
+use Rattle.table.proofs.TableLaws.{Fit}
+use Rattle.modes.proofs.OwnerLaws.{held-fit, bits-per-frame-is}
 use borrow.Author.Needs.{needs}
 use Rattle.modes.proofs.bits_per_frame.Statement.{statement}
 use Rattle.modes.proofs.bits_per_frame.Tie as tie

@@ -5,9 +5,8 @@ use Rattle.modes.specs.Owners.{heldBy, clash}
 use Rattle.modes.specs.Modes.{givenWay}
 use Rattle.modes.specs.declared.Mode.{Mode}
 use Rattle.modes.specs.declared.Owner.{Owner}
-use Rattle.modes.specs.declared.Places.{Places}
-use Rattle.modes.proofs.TableLaws.{held-fit}
-use Rattle.modes.proofs.OwnerLaws.{touching, clash-is}
+use Rattle.table.specs.declared.Places.{Places}
+use Rattle.modes.proofs.OwnerLaws.{held-fit, touching, clash-is}
 use borrow.Author.Needs.{needs}
 use Rattle.modes.proofs.give_way.Statement.{statement}
 use Rattle.modes.proofs.give_way.Tie as tie

@@ -3,8 +3,8 @@ use mathlib.Core.Path.{_≡_, sym, ap, _∙_}
 use mathlib.Core.Bool.{Bool}
 use Prim.Native.Nat.{ℕ}
 use Rattle.modes.specs.Owners.{holds, ownerOf}
-use Rattle.modes.specs.declared.OctetNumber.{OctetNumber}
-use Rattle.modes.specs.declared.Places.{Places}
+use Rattle.numbers.specs.declared.OctetNumber.{OctetNumber}
+use Rattle.table.specs.declared.Places.{Places}
 use borrow.Author.Needs.{needs}
 use Rattle.modes.proofs.owner_of.Statement.{statement}
 use Rattle.modes.proofs.owner_of.Tie as tie

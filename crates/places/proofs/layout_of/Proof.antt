@@ -3,10 +3,10 @@ use mathlib.Core.Path.{_≡_, ap, ap₂, _∙_}
 use Prim.Native.Nat.{ℕ, _-_, min}
 use native.Mathlib.Omega.{arith}
 use Rattle.places.specs.Layout.{layoutOf}
-use Rattle.modes.specs.declared.Places.{Places}
+use Rattle.table.specs.declared.Places.{Places}
 use Rattle.modes.specs.declared.Mode.{Mode}
 use Rattle.modes.specs.Owners.{heldBy}
-use Rattle.modes.proofs.TableLaws.{held-fit}
+use Rattle.modes.proofs.OwnerLaws.{held-fit}
 use Rattle.modes.specs.declared.Owner.the-variants.{Voice, Lsd}
 use borrow.Author.Needs.{needs}
 use Rattle.places.proofs.layout_of.Statement.{statement}

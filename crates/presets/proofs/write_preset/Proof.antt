@@ -6,8 +6,8 @@ use borrow.Author.Needs.{needs}
 use borrow.Author.Tests.{not-false}
 use Rattle.refusals.specs.Rows.{firstGiven}
 use Rattle.refusals.proofs.RowLaws.{in-turn-is, none-given}
-use Rattle.control.specs.State.{stateInRange}
-use Rattle.control.proofs.RangeLaws.{chosen-small, lsd-in-force-small}
+use Rattle.sender.specs.State.{stateInRange}
+use Rattle.sender.proofs.StateLaws.{chosen-small, lsd-in-force-small}
 use Rattle.presets.specs.Presets.{writtenRows, presetWritten}
 use Rattle.presets.proofs.write_preset.Statement.{statement}
 use Rattle.presets.proofs.write_preset.Tie as tie

@@ -50,9 +50,9 @@ use Rattle.walk.proofs.Onward.Laws as U′
 use Rattle.recording.specs.declared.Stepped.{Stepped}
 use Rattle.recording.proofs.Stepped as S
 use Rattle.recording.proofs.Stepped.Laws as S′
-use Rattle.track.specs.declared.Reader.{Reader}
-use Rattle.track.proofs.Reader as Reader
-use Rattle.track.proofs.Reader.Laws as Reader′
+use Rattle.reader.specs.declared.Reader.{Reader}
+use Rattle.reader.proofs.Reader as Reader
+use Rattle.reader.proofs.Reader.Laws as Reader′
 use Rattle.recording.specs.declared.Answer.{Answer}
 use Rattle.recording.proofs.Answer as Answer
 use Rattle.recording.proofs.Answer.Laws as Answer′

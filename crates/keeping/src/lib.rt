@@ -1,0 +1,103 @@
+// A walk as a driver keeps it between its steps, and its saved form (docs/SAVED.md), which begins with that of its reader. Every octet of a form
+// is loaded as it is: a state out of range is refused by the calls that are given it.
+ghost use mathlib.Core.Path.{_≡_};
+ghost use Prim.Native.Nat.{_≤_};
+ghost use lib.ListN.{length};
+ghost use Rattle.keeping.specs.SavedWalk.{walkSaved, walkKept, walkLoaded, eightLowFirst};
+use reader::Reader;
+
+// A walk without its recording: where it stands, its reader, and a mark that is not 0 where the block before was lost. Reserved octets are kept
+// as they are.
+#[repr(C)]
+pub struct WalkState {
+    pub place: usize,
+    pub reader: Reader,
+    pub lost: u8,
+    pub reserved: [u8; 3],
+}
+
+// The state that is left, and 1 where the octets were a saved walk, 0 where they were none and the state is the one given.
+pub struct WalkLoad {
+    pub state: WalkState,
+    pub answer: u8,
+}
+
+pub fn save_walk(state: WalkState, saved: &mut [u8]) -> u8
+    ensures { λ r. ⌜ (r ≡ walkSaved state (now (saved .entry))) × (now (saved .exit) ≡ walkKept state (now (saved .entry))) ⌝ }
+{
+    let reader = state.reader;
+    let p0 = state.place;
+    let p1 = p0 / 256;
+    let p2 = p1 / 256;
+    let p3 = p2 / 256;
+    let p4 = p3 / 256;
+    let p5 = p4 / 256;
+    let p6 = p5 / 256;
+    let p7 = p6 / 256;
+    let octets = [
+        reader.mode.audio,
+        reader.mode.lsd,
+        reader.kept.audio,
+        reader.kept.lsd,
+        reader.wrong,
+        reader.block.0,
+        reader.firsts,
+        reader.misses,
+        reader.slot.kind,
+        reader.slot.words,
+        reader.before,
+        reader.remainder,
+        state.lost,
+        (p0 % 256) as u8,
+        (p1 % 256) as u8,
+        (p2 % 256) as u8,
+        (p3 % 256) as u8,
+        (p4 % 256) as u8,
+        (p5 % 256) as u8,
+        (p6 % 256) as u8,
+        (p7 % 256) as u8,
+    ];
+    saving::save(&octets, saved)
+}
+
+// The place of a saved walk: its last eight octets, the lowest first. A second caller of `bits::eight_at` would keep it out of the writer's loop,
+// which is slower then (docs/SPEED.md).
+fn place_from(saved: &[u8]) -> usize
+    requires { ⌜ 21 ≤ length (now saved) ⌝ }
+    ensures { λ r. ⌜ r ≡ eightLowFirst (now (saved .entry)) 13 ⌝ }
+{
+    let eight = [
+        saved[20],
+        saved[19],
+        saved[18],
+        saved[17],
+        saved[16],
+        saved[15],
+        saved[14],
+        saved[13],
+    ];
+    bits::whole_eight_at(&eight, 0)
+}
+
+pub fn load_walk(state: WalkState, saved: &[u8]) -> WalkLoad
+    ensures { λ r. ⌜ r ≡ walkLoaded state (now (saved .entry)) ⌝ }
+{
+    if saved.len() == 21 {
+        let reader = saving::reader_from(saved);
+        let place = place_from(saved);
+        let loaded = WalkState {
+            place: place,
+            reader: reader,
+            lost: saved[12],
+            reserved: [0; 3],
+        };
+        return WalkLoad {
+            state: loaded,
+            answer: 1,
+        };
+    }
+    WalkLoad {
+        state: state,
+        answer: 0,
+    }
+}

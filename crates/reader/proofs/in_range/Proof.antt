@@ -1,0 +1,12 @@
+-- `reader::in_range` meets its contract: code and definition are one expression.
+use Rattle.reader.specs.State.{stateInRange}
+use borrow.Author.Needs.{needs}
+use Rattle.reader.proofs.in_range.Statement.{statement}
+use Rattle.reader.proofs.in_range.Tie as tie
+
+returns : tie.Need-returns
+unfolding stateInRange
+returns c = rw (c .modes-in-range .ensures)
+
+pub in-range-spec : {M : Type 1} → statement M
+in-range-spec = tie.close (tie.spec (λ c κs. search needs) returns)
