@@ -242,7 +242,7 @@ fn voice_under(mode: Mode, mute: bool) -> Voice {
 
 fn put_block(line: &mut [u8], at: usize, block: u8) -> usize {
     let place = text::put_all(line, at, b" in block ");
-    text::put_decimal(line, place, block as usize)
+    digits::put_decimal(line, place, block as usize)
 }
 
 // What became of a call that was made in a block; `went` is the audio in force after it.
@@ -255,13 +255,13 @@ fn put_answer(line: &mut [u8], at: usize, answer: Answer, block: u8, went: u8) -
         }
         Answer::Held => {
             place = text::put_all(line, place, b" held, ");
-            place = text::put_hex(line, place, went);
+            place = digits::put_hex(line, place, went);
             place = text::put_all(line, place, b" went");
             put_block(line, place, block)
         }
         Answer::Refused(why) => {
             place = text::put_all(line, place, b" refused ");
-            text::put_decimal(line, place, refusals::number_of(why) as usize)
+            digits::put_decimal(line, place, refusals::number_of(why) as usize)
         }
     }
 }
@@ -271,9 +271,9 @@ fn tell_call(session: Session, code: u8, answer: Answer, went: u8) {
     let mut line = [0u8; 64];
     let block = session.state.block;
     let mut at = text::put_all(&mut line, 0, b"call ");
-    at = text::put_decimal(&mut line, at, session.number);
+    at = digits::put_decimal(&mut line, at, session.number);
     at = text::put_all(&mut line, at, b": ");
-    at = text::put_hex(&mut line, at, code);
+    at = digits::put_hex(&mut line, at, code);
     at = put_answer(&mut line, at, answer, block.0, went);
     at = text::put(&mut line, at, b'\n');
     if at <= 64 {

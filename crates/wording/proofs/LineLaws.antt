@@ -5,9 +5,9 @@ use native.Mathlib.Omega.{arith}
 use lib.ListN.{length, length-append}
 use Rattle.words.specs.declared.Reading.{Reading}
 use Rattle.words.specs.declared.Reading.the-variants.{Mended, Item, MessageWord, ForbiddenItem, NotFollowed, Unreadable, NotRead}
-use Rattle.text.specs.Digits.{hexOf}
+use Rattle.digits.specs.Digits.{hexOf}
 use Rattle.text.specs.Words.{textOf}
-use Rattle.text.proofs.Decimal.{decimal-three, decimal-five}
+use Rattle.digits.proofs.Decimal.{decimal-three, decimal-five}
 use Rattle.track.specs.declared.Report.{Report}
 use Rattle.track.specs.declared.Standing.{Standing}
 use Rattle.track.specs.declared.Standing.the-variants.{Waiting, Read, Lost}

@@ -1,7 +1,7 @@
 // One line of the listing of a recording, as text in a lent buffer (document 01, 'Figures to check against').
 ghost use mathlib.Core.List.{_++_};
 ghost use Rattle.text.specs.Over.{Written};
-ghost use Rattle.text.specs.Digits.{decimalOf};
+ghost use Rattle.digits.specs.Digits.{decimalOf};
 ghost use Rattle.text.specs.Words.{textOf};
 ghost use Rattle.wording.specs.Lines.{standingText, verdictText, codeText, blockLine, lineText};
 use recording::Answer;
@@ -39,7 +39,7 @@ fn put_code(text: &mut [u8], at: usize, reading: Reading) -> usize
         | Reading::Item(code)
         | Reading::MessageWord(code)
         | Reading::ForbiddenItem(code)
-        | Reading::NotFollowed(code) => text::put_hex(text, at, code),
+        | Reading::NotFollowed(code) => digits::put_hex(text, at, code),
         Reading::Unreadable => text::put_all(text, at, b"--"),
         Reading::NotRead => text::put_all(text, at, b"--"),
     }
@@ -52,7 +52,7 @@ fn put_block(text: &mut [u8], at: usize, count: usize, report: Report) -> usize
     let standing = report.standing;
     let verdict = report.verdict;
     let reading = report.reading;
-    let mut a = text::put_decimal(text, at, count);
+    let mut a = digits::put_decimal(text, at, count);
     a = text::put(text, a, b' ');
     a = put_standing(text, a, standing);
     a = text::put(text, a, b' ');
@@ -67,7 +67,7 @@ pub fn put_line(text: &mut [u8], at: usize, word: &[u8], n: usize) -> usize
     ensures { λ r. ⌜ Written at (now (word .entry) ++ decimalOf n ++ textOf "\n") (now (text .entry)) r (now (text .exit)) ⌝ }
 {
     let mut a = text::put_all(text, at, word);
-    a = text::put_decimal(text, a, n);
+    a = digits::put_decimal(text, a, n);
     text::put(text, a, b'\n')
 }
 

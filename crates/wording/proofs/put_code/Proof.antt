@@ -1,7 +1,7 @@
 -- `wording::put_code` meets its contract: the code, whatever its reading, or two hyphens.
 use mathlib.Core.Path.{_≡_}
 use mathlib.Core.Logic.{⊎-elim}
-use Rattle.text.specs.Digits.{hexOf}
+use Rattle.digits.specs.Digits.{hexOf}
 use Rattle.text.specs.Words.{textOf}
 use Rattle.wording.specs.Lines.{codeText}
 use borrow.Author.Needs.{needs}

@@ -8,8 +8,8 @@ use native.Mathlib.Nat.{div-eq-of-lt, div-lt-iff-lt-mul, div-div-eq-div-mul, le-
 use native.Mathlib.Omega.{arith}
 use lib.Dec.{leb, lit<}
 use lib.ListN.{length, getD, length-append}
-use Rattle.text.specs.Digits.{digitOf, digitAt, digitsFrom, decimalOf}
-use Rattle.text.proofs.DigitLaws.{digits-from}
+use Rattle.digits.specs.Digits.{digitOf, digitAt, digitsFrom, decimalOf}
+use Rattle.digits.proofs.DigitLaws.{digits-from}
 
 shown : (d : ℕ) → d < 10 → digitOf d ≡ 48 + d
 unfolding digitOf

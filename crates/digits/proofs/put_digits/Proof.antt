@@ -1,4 +1,4 @@
--- `text::put_digits` meets its contract. The loop's invariant: the digits from 10 ^ k on, written next, make the digits whole.
+-- `digits::put_digits` meets its contract. The loop's invariant: the digits from 10 ^ k on, written next, make the digits whole.
 use borrow.Author.Needs.{needs}
 use native.Mathlib.Omega.{arith}
 use native.Mathlib.Nat.{one-le-pow}
@@ -7,12 +7,12 @@ use mathlib.Core.List.{List}
 use Prim.Native.Nat.{ℕ, _/_, _^_}
 use lib.Dec.{lit<}
 use lib.ListN.{length}
 use Rattle.text.specs.Over.{Written}
-use Rattle.text.specs.Digits.{digitsFrom}
+use Rattle.digits.specs.Digits.{digitsFrom}
 use Rattle.text.proofs.OverLaws.{written-none, written-then}
-use Rattle.text.proofs.DigitLaws.{digits-last, digits-more, power-below}
-use Rattle.text.proofs.put_digits.Statement.{statement}
-use Rattle.text.proofs.put_digits.Tie as tie
+use Rattle.digits.proofs.DigitLaws.{digits-last, digits-more, power-below}
+use Rattle.digits.proofs.put_digits.Statement.{statement}
+use Rattle.digits.proofs.put_digits.Tie as tie
 
 abbrev Inv-loop : tie.InvT-loop
 Inv-loop text₀ at power first n place₀ here₀ k₀ text place here k =

@@ -1,11 +1,11 @@
--- `text::put_digit_at` meets its contract: a digit where the power is not larger than the number, and nothing where it is.
+-- `digits::put_digit_at` meets its contract: a digit where the power is not larger than the number, and nothing where it is.
 use borrow.Author.Needs.{needs}
 use borrow.Author.Tests.{le-leb, lt-leb}
 use native.Mathlib.Omega.{arith}
-use Rattle.text.specs.Digits.{digitAt}
+use Rattle.digits.specs.Digits.{digitAt}
 use Rattle.text.proofs.OverLaws.{written-none}
-use Rattle.text.proofs.put_digit_at.Statement.{statement}
-use Rattle.text.proofs.put_digit_at.Tie as tie
+use Rattle.digits.proofs.put_digit_at.Statement.{statement}
+use Rattle.digits.proofs.put_digit_at.Tie as tie
 
 returns : tie.Need-returns
 unfolding digitAt

@@ -1,9 +1,9 @@
--- `text::digit` meets its contract: each test of the code is that of the definition.
+-- `digits::digit` meets its contract: each test of the code is that of the definition.
 use borrow.Author.Needs.{needs}
 use borrow.Author.Tests.{lt-ltb, le-ltb}
-use Rattle.text.specs.Digits.{digitOf}
-use Rattle.text.proofs.digit.Statement.{statement}
-use Rattle.text.proofs.digit.Tie as tie
+use Rattle.digits.specs.Digits.{digitOf}
+use Rattle.digits.proofs.digit.Statement.{statement}
+use Rattle.digits.proofs.digit.Tie as tie
 
 returns : tie.Need-returns
 unfolding digitOf

@@ -1,10 +1,10 @@
--- `text::put_decimal` meets its contract: a small number has no digit above that of 10 ^ 4.
+-- `digits::put_decimal` meets its contract: a small number has no digit above that of 10 ^ 4.
 use borrow.Author.Needs.{needs}
 use native.Mathlib.Omega.{arith}
-use Rattle.text.specs.Digits.{decimalOf}
-use Rattle.text.proofs.DigitLaws.{digits-from}
-use Rattle.text.proofs.put_decimal.Statement.{statement}
-use Rattle.text.proofs.put_decimal.Tie as tie
+use Rattle.digits.specs.Digits.{decimalOf}
+use Rattle.digits.proofs.DigitLaws.{digits-from}
+use Rattle.digits.proofs.put_decimal.Statement.{statement}
+use Rattle.digits.proofs.put_decimal.Tie as tie
 
 returns : tie.Need-returns
 unfolding decimalOf

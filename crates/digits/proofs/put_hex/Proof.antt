@@ -1,9 +1,9 @@
--- `text::put_hex` meets its contract: two digits one after the other.
+-- `digits::put_hex` meets its contract: two digits one after the other.
 use borrow.Author.Needs.{needs}
-use Rattle.text.specs.Digits.{hexOf}
+use Rattle.digits.specs.Digits.{hexOf}
 use Rattle.text.proofs.OverLaws.{written-then}
-use Rattle.text.proofs.put_hex.Statement.{statement}
-use Rattle.text.proofs.put_hex.Tie as tie
+use Rattle.digits.proofs.put_hex.Statement.{statement}
+use Rattle.digits.proofs.put_hex.Tie as tie
 
 returns : tie.Need-returns
 unfolding hexOf

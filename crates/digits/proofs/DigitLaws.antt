@@ -6,7 +6,7 @@ use Prim.Native.Nat.{ℕ, zero, suc, _+_, _-_, _/_, _%_, _^_, _≤_, _<_}
 use native.Mathlib.Nat.{pow-suc, mul-div-cancel, suc-sub-suc, sub-zero, zero-add, suc-add, pow-le-pow-right}
 use native.Mathlib.Omega.{arith}
 use lib.Dec.{lit<}
-use Rattle.text.specs.Digits.{digitOf, digitAt, digitsFrom}
+use Rattle.digits.specs.Digits.{digitOf, digitAt, digitsFrom}
 
 pub digits-last : (n : ℕ) → digitsFrom 0 n ≡ digitOf (n % 10) ∷ []
 unfolding digitsFrom
