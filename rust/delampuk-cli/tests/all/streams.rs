@@ -47,11 +47,12 @@ fn messages_that_cannot_be_written_are_a_fault() {
     }
 }
 
-/// The command waits for its input until nobody reads its output any more.
+/// The command waits for its input until nobody reads its output any more. It writes more than a pipe holds: a process that another test is just
+/// starting may still have the other end.
 #[test]
 fn a_closed_pipe_ends_it_quietly() {
-    let recording = sent(&["80*6", "14", "80*20"], &[0; 2400]);
-    for words in [&["list"][..], &["hear"], &["send", "14", "80*9"]] {
+    let recording = sent(&["80*6", "14", "80*6000"], &[0; 720_000]);
+    for words in [&["list"][..], &["hear"], &["send", "14", "80*6000"]] {
         let mut child = command(words).stdin(Stdio::piped()).spawn().expect("it is built");
         drop(child.stdout.take());
         let mut pipe = child.stdin.take().expect("its input is a pipe");
