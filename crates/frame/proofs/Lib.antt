@@ -1,5 +1,1 @@
 pub mod BlockLaws
-pub mod OctetLaws
-pub mod PartLaws
-pub mod TailLaws
-pub mod WrittenLaws

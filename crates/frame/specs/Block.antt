@@ -7,12 +7,12 @@ use Rattle.bits.specs.Bits.{bitsOf, octets}
 use Rattle.bas.specs.Words.{wordBits, lineOrder}
 use Rattle.numbers.specs.Numbers.{evenFrame, oddFrame}
 use Rattle.modes.specs.declared.Mode.{Mode}
-use Rattle.modes.specs.declared.Owner.the-variants.{Service, Voice, Lsd, Nobody}
 use Rattle.service.specs.Service.{serviceRows}
 use Rattle.places.specs.Places.{places}
 use Rattle.buffers.specs.Buffers.{Buffers, lengths}
 use Rattle.buffers.specs.Lengths.{lineOctets, fitting}
 use Rattle.places.specs.Streams.{Streams, fill}
+use Rattle.halves.specs.Sources.{heard, byOwner}
 use Rattle.frame.specs.declared.Header.{Header}
 
 -- service bits 1 to 8 of each frame are its row, 9 to 16 are the BAS word in line order
@@ -21,17 +21,6 @@ serviceBits h =
     let rows = serviceRows (h .a) (h .e) (h .t) (h .remainder) in
     let word = lineOrder (wordBits (h .code)) in
     getD rows (evenFrame (h .block) .0) [] ++ take 8 word ++ getD rows (oddFrame (h .block) .0) [] ++ drop 8 word
-
--- with mute set, voice has no bits to send, and so its places carry ones (DECISIONS F13)
-abbrev pub heard : Bool → List Bool → List Bool
-heard mute voice = cond mute [] voice
-
--- the stream of each owner; nobody has no bits
-abbrev pub byOwner : List Bool → List Bool → List Bool → Streams
-byOwner service voice lsd Service = service
-byOwner service voice lsd Voice = voice
-byOwner service voice lsd Lsd = lsd
-byOwner service voice lsd Nobody = []
 
 -- what a block is filled from
 abbrev pub sources : Header → Bool → Buffers → Streams

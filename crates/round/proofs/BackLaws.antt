@@ -20,15 +20,16 @@ use Rattle.modes.specs.declared.Mode.{Mode}
 use Rattle.places.specs.Streams.{Streams, rest}
 use Rattle.service.specs.Service.{serviceRows}
 use Rattle.buffers.specs.Buffers.{Buffers}
-use Rattle.frame.specs.Block.{serviceBits, heard, byOwner, sources, blockOf}
+use Rattle.frame.specs.Block.{serviceBits, sources, blockOf}
+use Rattle.halves.specs.Sources.{heard, byOwner}
 use Rattle.service.specs.Channel.{channelBits}
 use Rattle.places.specs.Layout.{layoutOf, channelBy, columnsBy, rowsBy, sc, Apart}
-use Rattle.frame.specs.Frame.{frameBy}
+use Rattle.halves.specs.Frame.{frameBy}
 use Rattle.places.specs.declared.Layout.{Layout}
 use Rattle.frame.specs.declared.Header.{Header}
 use Rattle.places.proofs.LayoutLaws.{apart-of, channel-service}
-use Rattle.frame.proofs.OctetLaws.{octet-at, channel-next}
-use Rattle.frame.proofs.WrittenLaws.{octet-done, two-frames, rest-frame}
+use Rattle.halves.proofs.OctetLaws.{octet-at, channel-next}
+use Rattle.halves.proofs.WrittenLaws.{octet-done, two-frames, rest-frame}
 use Rattle.frame.proofs.BlockLaws.{block-is}
 
 -- ---- a row is eight bits, and a block has thirty-two service bits

@@ -16,7 +16,8 @@ use Rattle.places.specs.Streams.{Streams, count, fill, sort}
 use Rattle.places.specs.Places.{places}
 use Rattle.buffers.specs.Buffers.{Buffers}
 use Rattle.buffers.specs.Lengths.{lineOctets, streamOctets}
-use Rattle.frame.specs.Block.{heard, sources, blockOf}
+use Rattle.frame.specs.Block.{sources, blockOf}
+use Rattle.halves.specs.Sources.{heard}
 use Rattle.places.specs.Layout.{layoutOf}
 use Rattle.frame.specs.declared.Header.{Header}
 use Rattle.places.proofs.StreamLaws.{sorted, length-fill}

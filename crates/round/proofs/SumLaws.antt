@@ -24,11 +24,12 @@ use Rattle.places.proofs.LayoutLaws.{apart-of, channel-service}
 use Rattle.service.specs.Service.{oddRow}
 use Rattle.service.specs.Channel.{cBits}
 use Rattle.buffers.specs.Buffers.{Buffers}
-use Rattle.frame.specs.Block.{serviceBits, heard, byOwner, blockOf}
-use Rattle.frame.specs.Frame.{frameBy}
+use Rattle.frame.specs.Block.{serviceBits, blockOf}
+use Rattle.halves.specs.Sources.{heard, byOwner}
+use Rattle.halves.specs.Frame.{frameBy}
 use Rattle.frame.specs.declared.Header.{Header}
-use Rattle.frame.proofs.OctetLaws.{octet-at, channel-next, channel-unserved}
-use Rattle.frame.proofs.WrittenLaws.{octet-done}
+use Rattle.halves.proofs.OctetLaws.{octet-at, channel-next, channel-unserved}
+use Rattle.halves.proofs.WrittenLaws.{octet-done}
 use Rattle.round.proofs.BackLaws.{halves, length-even}
 use Rattle.round.proofs.HeaderLaws.{oddBit, even-service, odd-service, remainder-back}
 

@@ -8,11 +8,11 @@ use lib.ListN.{length, drop, length-drop}
 use lib.Seq.{length-take-le}
 use Rattle.bits.specs.Bits.{lowBits, bitsOf}
 use Rattle.bits.proofs.BitLaws.{length-lowBits}
-use Rattle.frame.specs.Block.{heard, byOwner}
-use Rattle.frame.specs.Frame.{frameBy}
+use Rattle.halves.specs.Sources.{heard, byOwner}
+use Rattle.halves.specs.Frame.{frameBy}
 use Rattle.places.specs.Layout.{sc}
 use Rattle.places.proofs.LayoutLaws.{eights-through}
-use Rattle.frame.proofs.WrittenLaws.{second-half, two-frames, even-half, odd-half}
+use Rattle.halves.proofs.WrittenLaws.{second-half, two-frames, even-half, odd-half}
 use borrow.Author.Needs.{needs}
 use Rattle.frame.proofs.fill_block.Statement.{statement}
 use Rattle.frame.proofs.fill_block.Tie as tie

@@ -8,7 +8,7 @@ use borrow.Author.Tests.{not-true, not-false}
 use denote.Ref.{now}
 use Rattle.bits.specs.Bits.{bitsOf, octets}
 use Rattle.places.specs.Streams.{fill}
-use Rattle.frame.specs.Block.{heard, byOwner}
+use Rattle.halves.specs.Sources.{heard, byOwner}
 use Rattle.places.specs.Layout.{rowsBy}
 use Rattle.places.specs.declared.Layout.{Layout}
 use Rattle.buffers.specs.Buffers.{Each, each}

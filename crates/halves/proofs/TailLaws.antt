@@ -13,13 +13,13 @@ use lib.Seq.{take-all, take-at, drop-at}
 use Rattle.bits.specs.Bits.{lowBits, number, nexts}
 use Rattle.bits.proofs.BitLaws.{length-lowBits, lowBits-append, number-fits, number-lowBits}
 use Rattle.bits.proofs.NextLaws.{nexts-take}
-use Rattle.frame.specs.Block.{byOwner}
+use Rattle.halves.specs.Sources.{byOwner}
 use Rattle.places.specs.Layout.{inEights, sc, Apart}
 use Rattle.eights.specs.Eight.{eights, endedBy, fieldOf, fieldsOf, raisedBy}
-use Rattle.frame.specs.Parts.{wordAt, tailAt}
+use Rattle.halves.specs.Parts.{wordAt, tailAt}
 use Rattle.places.specs.declared.Layout.{Layout}
 use Rattle.places.proofs.LayoutLaws.{eights-at}
-use Rattle.frame.proofs.PartLaws.{eight-free, eight-owned, eight-served, parts-are, word-lt}
+use Rattle.halves.proofs.PartLaws.{eight-free, eight-owned, eight-served, parts-are, word-lt}
 use Rattle.eights.proofs.WordLaws.{lane-is}
 
 -- ten eights in three runs

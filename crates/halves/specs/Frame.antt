@@ -9,7 +9,7 @@ use Rattle.buffers.specs.Lengths.{streamOctets}
 use Rattle.places.specs.Streams.{Streams, fill}
 use Rattle.places.specs.Layout.{rowsBy, inEights, Apart}
 use Rattle.places.specs.declared.Layout.{Layout}
-use Rattle.frame.specs.Block.{heard, byOwner}
+use Rattle.halves.specs.Sources.{heard, byOwner}
 
 -- what a frame is filled from: its sixteen service bits, voice from its bit v on, ones where it is muted, and data from its bit d on
 abbrev pub frameSources : ℕ → Bool → List ℕ → ℕ → List ℕ → ℕ → Streams

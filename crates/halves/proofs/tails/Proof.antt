@@ -1,17 +1,17 @@
--- `frame::tails` meets its contract: the laws of the eights that have service bits, and of those that have none.
+-- `halves::tails` meets its contract: the laws of the eights that have service bits, and of those that have none.
 use mathlib.Core.Path.{_≡_, _∙_}
 use Prim.Native.Nat.{_/_, _%_, _<_}
 use native.Mathlib.Omega.{arith}
 use denote.Ref.{now}
 use lib.ListN.{length, getD, drop, set, length-set}
 use Rattle.bits.specs.Bits.{lowBits, bitsOf}
-use Rattle.frame.specs.Parts.{wordAt, tailAt}
-use Rattle.frame.proofs.PartLaws.{eight-unserved}
-use Rattle.frame.proofs.TailLaws.{Served, served-first, served-second}
-use Rattle.frame.proofs.WrittenLaws.{two-set}
+use Rattle.halves.specs.Parts.{wordAt, tailAt}
+use Rattle.halves.proofs.PartLaws.{eight-unserved}
+use Rattle.halves.proofs.TailLaws.{Served, served-first, served-second}
+use Rattle.halves.proofs.WrittenLaws.{two-set}
 use borrow.Author.Needs.{needs}
-use Rattle.frame.proofs.tails.Statement.{statement}
-use Rattle.frame.proofs.tails.Tie as tie
+use Rattle.halves.proofs.tails.Statement.{statement}
+use Rattle.halves.proofs.tails.Tie as tie
 
 first : (c : tie.After-slice-known3)
     → (let a = c .before .before .before .before .before .before .before .args in

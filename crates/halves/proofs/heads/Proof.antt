@@ -1,4 +1,4 @@
--- `frame::heads` meets its contract: ones alone where voice is muted, else voice laid over all ten eights.
+-- `halves::heads` meets its contract: ones alone where voice is muted, else voice laid over all ten eights.
 use mathlib.Core.Path.{sym, ap, _∙_}
 use mathlib.Core.Bool.{Bool}
 use Prim.Native.Nat.{_+_, _*_, _/_}
@@ -6,12 +6,12 @@ use native.Mathlib.Omega.{arith}
 use denote.Ref.{now}
 use lib.ListN.{drop}
 use Rattle.bits.specs.Bits.{bitsOf}
-use Rattle.frame.specs.Block.{heard}
-use Rattle.frame.specs.Parts.{wordAt, headAt}
-use Rattle.frame.proofs.PartLaws.{heads-muted, heads-laid}
+use Rattle.halves.specs.Sources.{heard}
+use Rattle.halves.specs.Parts.{wordAt, headAt}
+use Rattle.halves.proofs.PartLaws.{heads-muted, heads-laid}
 use borrow.Author.Needs.{needs}
-use Rattle.frame.proofs.heads.Statement.{statement}
-use Rattle.frame.proofs.heads.Tie as tie
+use Rattle.halves.proofs.heads.Statement.{statement}
+use Rattle.halves.proofs.heads.Tie as tie
 
 returns : tie.Need-returns
 returns c =

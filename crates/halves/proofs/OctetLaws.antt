@@ -14,7 +14,7 @@ use Rattle.bits.proofs.BitLaws.{number-append, number-bound}
 use Rattle.modes.specs.declared.Owner.{Owner}
 use Rattle.modes.specs.declared.Owner.the-variants.{Service, Voice, Lsd, Nobody}
 use Rattle.places.specs.Streams.{Streams, same, count, rest, fill}
-use Rattle.frame.specs.Block.{byOwner}
+use Rattle.halves.specs.Sources.{byOwner}
 use Rattle.places.specs.Layout.{columnsBy, channelBy, rowBy, rowsBy, sc, Apart}
 use Rattle.places.specs.declared.Layout.{Layout}
 use Rattle.places.proofs.StreamLaws.{fill-append, fill-all, rest-at, rest-rest, count-append, count-all, count-none, length-fill}

@@ -1,4 +1,4 @@
--- `frame::write_frame` meets its contract: the sums of both parts are the words of the frame.
+-- `halves::write_frame` meets its contract: the sums of both parts are the words of the frame.
 use mathlib.Core.Path.{_≡_, ap₂, _∙_}
 use Prim.Native.Nat.{ℕ, _+_, _<_}
 use native.Mathlib.Omega.{arith}
@@ -6,13 +6,13 @@ use denote.Ref.{now}
 use lib.ListN.{getD, drop}
 use Rattle.bits.specs.Bits.{lowBits, bitsOf}
 use Rattle.places.specs.Streams.{Streams}
-use Rattle.frame.specs.Block.{heard}
-use Rattle.frame.specs.Frame.{frameSources}
-use Rattle.frame.specs.Parts.{wordAt}
-use Rattle.frame.proofs.PartLaws.{octetAt, parts-are, word-lt, words-are}
+use Rattle.halves.specs.Sources.{heard}
+use Rattle.halves.specs.Frame.{frameSources}
+use Rattle.halves.specs.Parts.{wordAt}
+use Rattle.halves.proofs.PartLaws.{octetAt, parts-are, word-lt, words-are}
 use borrow.Author.Needs.{needs}
-use Rattle.frame.proofs.write_frame.Statement.{statement}
-use Rattle.frame.proofs.write_frame.Tie as tie
+use Rattle.halves.proofs.write_frame.Statement.{statement}
+use Rattle.halves.proofs.write_frame.Tie as tie
 
 -- what the frame is filled from, and that the two parts of its eights are its words
 abbrev source : tie.After-ends3 → Streams

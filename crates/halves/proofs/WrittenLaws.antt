@@ -16,9 +16,9 @@ use Rattle.bits.proofs.PackLaws.{length-octets, octets-append, octets-one}
 use Rattle.modes.specs.declared.Owner.{Owner}
 use Rattle.modes.specs.declared.Owner.the-variants.{Service, Voice, Lsd, Nobody}
 use Rattle.places.specs.Streams.{Streams, count, rest, fill}
-use Rattle.frame.specs.Block.{byOwner}
+use Rattle.halves.specs.Sources.{byOwner}
 use Rattle.places.specs.Layout.{rowBy, rowsBy, sc, Apart}
-use Rattle.frame.specs.Frame.{frameBy}
+use Rattle.halves.specs.Frame.{frameBy}
 use Rattle.places.specs.declared.Layout.{Layout}
 use Rattle.places.proofs.StreamLaws.{fill-append, fill-agree, length-fill}
 use Rattle.places.proofs.LayoutLaws.{count-service, count-voice, count-lsd, length-row, length-rows}

@@ -6,7 +6,7 @@ use Prim.Native.Nat.{ℕ, _+_, _-_, _*_, _^_}
 use lib.ListN.{getD, drop}
 use Rattle.bits.specs.Bits.{number, digit, nexts}
 use Rattle.eights.specs.Eight.{eights}
-use Rattle.frame.specs.Block.{byOwner}
+use Rattle.halves.specs.Sources.{byOwner}
 use Rattle.places.specs.Layout.{channelBy, sc}
 use Rattle.places.specs.declared.Layout.{Layout}
 

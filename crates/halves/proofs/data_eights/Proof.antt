@@ -1,4 +1,4 @@
--- `frame::data_eights` meets its contract: a law for each run.
+-- `halves::data_eights` meets its contract: a law for each run.
 use mathlib.Core.Logic.{inl, inr}
 use mathlib.Core.List.{[]}
 use mathlib.Core.Path.{refl, _∙_}
@@ -7,11 +7,11 @@ use native.Mathlib.Omega.{arith}
 use denote.Ref.{now}
 use lib.ListN.{getD, drop}
 use Rattle.bits.specs.Bits.{bitsOf}
-use Rattle.frame.specs.Parts.{wordAt, tailAt}
-use Rattle.frame.proofs.TailLaws.{by-runs, columns-to, columns-le, laid-before, laid-after}
+use Rattle.halves.specs.Parts.{wordAt, tailAt}
+use Rattle.halves.proofs.TailLaws.{by-runs, columns-to, columns-le, laid-before, laid-after}
 use borrow.Author.Needs.{needs}
-use Rattle.frame.proofs.data_eights.Statement.{statement}
-use Rattle.frame.proofs.data_eights.Tie as tie
+use Rattle.halves.proofs.data_eights.Statement.{statement}
+use Rattle.halves.proofs.data_eights.Tie as tie
 
 returns : tie.Need-returns
 returns c =

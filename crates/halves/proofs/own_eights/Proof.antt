@@ -1,4 +1,4 @@
--- `frame::own_eights` meets its contract: the law of data's own eights; where they are cut, data has no columns.
+-- `halves::own_eights` meets its contract: the law of data's own eights; where they are cut, data has no columns.
 use mathlib.Core.Path.{_≡_, sym, _∙_}
 use mathlib.Core.Logic.{_⊎_, inl, inr}
 use mathlib.Core.Bool.{true, false, false≢true}
@@ -10,11 +10,11 @@ use lib.ListN.{drop}
 use Rattle.bits.specs.Bits.{bitsOf}
 use Rattle.places.specs.Layout.{inEights}
 use Rattle.places.specs.declared.Layout.{Layout}
-use Rattle.frame.proofs.PartLaws.{eight-cut}
-use Rattle.frame.proofs.TailLaws.{columns-to, columns-le, laid-owned}
+use Rattle.halves.proofs.PartLaws.{eight-cut}
+use Rattle.halves.proofs.TailLaws.{columns-to, columns-le, laid-owned}
 use borrow.Author.Needs.{needs}
-use Rattle.frame.proofs.own_eights.Statement.{statement}
-use Rattle.frame.proofs.own_eights.Tie as tie
+use Rattle.halves.proofs.own_eights.Statement.{statement}
+use Rattle.halves.proofs.own_eights.Tie as tie
 
 none : (p : Layout) → inEights p ≡ false → (p .columns ≡ 0) ⊎ (inEights p ≡ true) → p .columns ≡ 0
 none p f (inl z) = z

@@ -17,19 +17,19 @@ use Rattle.bits.proofs.PackLaws.{length-octets}
 use Rattle.bits.proofs.Table.{entry}
 use Rattle.modes.specs.declared.Owner.{Owner}
 use Rattle.places.specs.Streams.{Streams, fill, rest}
-use Rattle.frame.specs.Block.{byOwner}
+use Rattle.halves.specs.Sources.{byOwner}
 use Rattle.places.specs.Layout.{rowBy, rowsBy, sc, Apart}
-use Rattle.frame.specs.Frame.{frameBy}
+use Rattle.halves.specs.Frame.{frameBy}
 use Rattle.eights.specs.Eight.{eights, ownAt, endedBy, fieldOf, fieldsOf, raisedBy, octetIn, octetsIn, allOctets}
-use Rattle.frame.specs.Parts.{wordAt, headAt, tailAt}
+use Rattle.halves.specs.Parts.{wordAt, headAt, tailAt}
 use Rattle.places.specs.declared.Layout.{Layout}
 use Rattle.bits.proofs.NextLaws.{length-nexts, nexts-append}
 use Rattle.places.proofs.LayoutLaws.{channel-cases, channel-service, channel-lsd}
-use Rattle.frame.proofs.OctetLaws.{ones, octet-lt, octet-parts, channel-unserved, channel-free}
+use Rattle.halves.proofs.OctetLaws.{ones, octet-lt, octet-parts, channel-unserved, channel-free}
 use Rattle.eights.proofs.EightLaws.{number-one}
 use Rattle.eights.proofs.RunLaws.{all-are}
 use Rattle.eights.proofs.WordLaws.{eights-plus, eights-each, eights-lt, octet-of, raised-none}
-use Rattle.frame.proofs.WrittenLaws.{done, octet-done}
+use Rattle.halves.proofs.WrittenLaws.{done, octet-done}
 
 -- ---- the first part: voice and nobody's ones
 all-ones : (w g : ℕ) → (2 ^ w - 1) * 2 ^ g + (2 ^ g - 1) ≡ 2 ^ (w + g) - 1

@@ -1,0 +1,4 @@
+pub mod OctetLaws
+pub mod PartLaws
+pub mod TailLaws
+pub mod WrittenLaws

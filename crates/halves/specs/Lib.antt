@@ -1,0 +1,3 @@
+pub mod Frame
+pub mod Parts
+pub mod Sources
