@@ -23,10 +23,10 @@ from collections import namedtuple
 
 D = {}
 exec(open(sys.argv[1], encoding="utf-8").read(), D)
-CRATE = D["crate"]
+HOME = D["crate"]
 STEP_NAME = sys.argv[2]
 FROM_NAME = f"{STEP_NAME}_from"
-(CALLEE_CRATE, CALLEE), (SPEC, DEFINED), (LENT, LEFT_IN) = D["steps"][STEP_NAME]
+CRATE, (CALLEE_CRATE, CALLEE), (SPEC, DEFINED), (LENT, LEFT_IN) = D["steps"][STEP_NAME]
 JOIN_CRATE, JOIN_SPEC, JOIN = D["joined"]
 STEPPED, STEPPED_FIELDS = D["stepped"]
 WALK, SLICE, MOVED = D["walk"]
@@ -285,7 +285,7 @@ REST_ROWS = [t.row for t in PARAM.values()] + [f"MutSlice (named {i + 1}) κ-{p}
 REST_VALUES = [f"{t.val} the-{p}" for p, t in PARAM.items()] + [f"s the-{p}" for p in LENT]
 COUNT = len(LENT) + 1
 NAMES = {
-    "step": STEP_NAME, "from": dash(FROM_NAME), "step_contract": STEP_NAME.capitalize(), "crate": CRATE, "callee": f"{CALLEE_CRATE}::{CALLEE}", "walk": WALK, "onward": ONWARD, "stepped": STEPPED, "u": "𝓤 H A",
+    "step": STEP_NAME, "from": dash(FROM_NAME), "step_contract": STEP_NAME.capitalize(), "crate": CRATE, "home": HOME, "callee": f"{CALLEE_CRATE}::{CALLEE}", "walk": WALK, "onward": ONWARD, "stepped": STEPPED, "u": "𝓤 H A",
     "module": "module _ {M : Type 1} (𝓤 : URA M) (H : Heap 𝓤) (A : Atoms 𝓤) (W : Given 𝓤 H A) (mem : Memory → SProp 𝓤) (run : Routine → Fun 𝓤)",
     "walk_type": "(T.the-type α)", "walk_laws": "(T′.the-laws α)",
     "lifetimes": " ".join(["κ"] + [f"κ-{p}" for p in LENT]), "shares": " ".join(["q"] + [f"q-{p}" for p in LENT]),
@@ -361,13 +361,20 @@ def of_result(x):
 # A function that a proof cites: its module, the name that it goes by in the proof, its key, and the name of its contract.
 Cited = namedtuple("Cited", "module name key contract")
 HERE = f"Rattle.{CRATE}.proofs."
+
+
+def part_of(home, part):
+    """the specs or proofs of a crate, as this one names them"""
+    return f"Rattle.{home}.{part}" if home == CRATE else f"Rattle.{home}.{part}"
+
+
 AT = Cited(f"Rattle.{CALLEE_CRATE}.proofs.{CALLEE}", "at", f"#{CALLEE_CRATE}·{dash(CALLEE)}", "At")
-OPEN = Cited(HERE + "open", "open", f"#{CRATE}·open", "Open")
+OPEN = Cited(part_of(HOME, "proofs") + ".open", "open", f"#{HOME}·open", "Open")
 STEP = Cited(HERE + STEP_NAME, STEP_NAME, f"#{CRATE}·{STEP_NAME}", STEP_NAME.capitalize())
 
 
 def crate_of(name):
-    return {STEPPED: CALLEE_CRATE, **{n: t[1] for n, t in D["types"].items()}}.get(name, CRATE)
+    return {STEPPED: CALLEE_CRATE, **{n: t[1] for n, t in D["types"].items()}}.get(name, HOME)
 
 
 def imports(function, cited):
@@ -417,10 +424,10 @@ use denote.Exit.{yes}"""]
     if LENT:
         out.append(f"use Rattle.{JOIN_CRATE}.specs.{JOIN_SPEC}.{{{JOIN}}}")
     out.append(f"use Rattle.{CALLEE_CRATE}.specs.{SPEC}.{{{', '.join([DEFINED] + ([LEFT_IN] if LENT else []))}}}")
-    out.append(f"use Rattle.{CRATE}.specs.{OWN_SPEC}.{{{OPENED_DEFINED}, {ONWARD_DEFINED}}}")
+    out.append(f"use {part_of(HOME, 'specs')}.{OWN_SPEC}.{{{OPENED_DEFINED}, {ONWARD_DEFINED}}}")
     for name in [WALK, ONWARD, STEPPED, *D["types"]]:
         home = crate_of(name)
-        specs, proofs = (f"Rattle.{home}.specs", f"Rattle.{home}.proofs") if home == CRATE else (f"Rattle.{home}.specs", f"Rattle.{home}.proofs")
+        specs, proofs = part_of(home, "specs"), part_of(home, "proofs")
         short = {WALK: "T", ONWARD: "U", STEPPED: "S"}.get(name, name)
         out.append(f"use {specs}.declared.{name}.{{{name}}}")
         out.append(f"use {proofs}.{name} as {short}\nuse {proofs}.{name}.Laws as {short}′")
@@ -859,7 +866,7 @@ STEP_FROM_TEXT = """\
       «exits»
       owned ! S.the-row (Is S.the-row) (LL.makes S.the-type S′.the-plain «u») (out o) _ is $ done !
 
-  module _ (C : Calls 𝓤 H) (Λ : Loops 𝓤 H) (fm : FmC 𝓤 H (W .laws) C) (known-open : Triple 𝓤 (C #«crate»·open) (Open «u» mem run)) (known-«step» : Triple 𝓤 (C #«crate»·«step») («step_contract» «u» mem run)) where
+  module _ (C : Calls 𝓤 H) (Λ : Loops 𝓤 H) (fm : FmC 𝓤 H (W .laws) C) (known-open : Triple 𝓤 (C #«home»·open) (Open «u» mem run)) (known-«step» : Triple 𝓤 (C #«crate»·«step») («step_contract» «u» mem run)) where
     walk : Is (ShrSlice (named 0) κ u8) x-in (s x-in ∷ []) → «buffer_facts»ent 𝓤 (onEntry «u» «from»′.signature κs qs x at) (WpFn 𝓤 H C Λ code.function («values») Post)
     walk g «buffers» =
         qed W (raw (onEntry «u» «from»′.signature κs qs x at) ∷ []) ∵ enter ! C Λ code.function («values») _ $
@@ -995,7 +1002,8 @@ def trimmed(text):
     return "\n".join(out) + "\n"
 
 
-for function, proof in ("open", open_proof), (STEP_NAME, step_proof), (FROM_NAME, step_from_proof):
+OWN = [("open", open_proof)] if CRATE == HOME else []
+for function, proof in *OWN, (STEP_NAME, step_proof), (FROM_NAME, step_from_proof):
     with open(f"crates/{CRATE}/proofs/{function}/Proof.antt", "w", encoding="utf-8") as file:
         file.write(f"-- `{CRATE}::{function}` meets its contract: a walk of its MIR, written by tools/gen_walk.py from {sys.argv[1]}.\n")
         file.write(trimmed(proof()))

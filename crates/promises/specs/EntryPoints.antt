@@ -50,7 +50,7 @@ abbrev pub Looking : Type 0
 Looking = (s : Reader) (line : List ℕ) (r : read.Outcome) → r ≡ reading.lookOf s line
     → Refuses (reader-list.numberIn (r .answer)) (lookingRows s line) (r .state ≡ s)
 
--- ---- `recording::look` and `walk::look_from`: rows 1 and 9
+-- ---- `recording::look` and `looking::look_from`: rows 1 and 9
 abbrev pub walkingRows : List ℕ → ℕ → Reader → List Row
 walkingRows recording place s =
     row 1 (not (reader.stateInRange s)) ∷ row 9 (ltb 65536 (length recording) || ltb (length recording) place) ∷ []
@@ -59,7 +59,7 @@ abbrev pub WalkLooking : Type 0
 WalkLooking = (recording : List ℕ) (place : ℕ) (lost : Bool) (s : Reader) (r : Stepped) → r ≡ lookAt recording place lost s
     → Refuses (walk-list.numberIn (r .answer)) (walkingRows recording place s) ((r .reader ≡ s) × (r .place ≡ place) × (r .lost ≡ lost))
 
--- ---- `walk::step` and `walk::look`, over a walk that holds its recording. `walk::step_from` has the contract of `recording::step`, so
+-- ---- `walk::step` and `looking::look`, over a walk that holds its recording. `walk::step_from` has the contract of `recording::step`, so
 -- `Stepping` is said of it too
 abbrev pub StepOfWalk : Type 0
 StepOfWalk = (w : Walk) (s : Reader) (b : Buffers) (r : Onward) (out : Buffers)

@@ -41,7 +41,7 @@ fn step_on(recording: &[u8], place: usize, lost: bool, s: Reader) -> Stepped
     requires { ⌜ (stateInRange s ≡ true) × (length (now recording) ≤ 65536) × (place ≤ length (now recording)) ⌝ }
     ensures { λ r. ⌜ r ≡ steppedBy (answerHere (now (recording .entry)) place lost s) (now (recording .entry)) place lost s ⌝ }
 {
-    walk::look_from(recording, place, lost, s)
+    looking::look_from(recording, place, lost, s)
 }
 
 // The lines of a walk from a place on. A recording has more octets than a walk over it has steps.

@@ -1,9 +1,8 @@
 // A walk over a recording (document 01, 'Finding alignment' and 'How to write each place'): it keeps the lent recording and its place
-// together. The work of a step is `recording::step`'s, or `recording::look`'s; here it is lent the walk's parts, and the walk moves by what
-// it gives.
+// together. The work of a step is `recording::step`'s; here it is lent the walk's parts, and the walk moves by what it gives.
 ghost use mathlib.Core.Path.{_≡_};
 ghost use Rattle.buffers.specs.Buffers.{each};
-ghost use Rattle.recording.specs.Walk.{stepAt, buffersAt, lookAt};
+ghost use Rattle.recording.specs.Walk.{stepAt, buffersAt};
 ghost use Rattle.walk.specs.Walks.{opened, onward};
 use reader::Reader;
 use recording::Answer;
@@ -65,35 +64,6 @@ pub fn step_from(
         × (each (now (voice .exit)) (now (lsd .exit)) ≡ buffersAt (now (recording .entry)) place lost reader (each (now (voice .entry)) (now (lsd .entry)))) ⌝ }
 {
     let o = step(open(recording, place, lost), reader, voice, lsd);
-    Stepped {
-        answer: o.answer,
-        reader: o.reader,
-        place: o.walk.place,
-        lost: o.walk.lost,
-    }
-}
-
-// One step of a walk that hands out no voice and no data.
-pub fn look<'a>(w: Walk<'a>, reader: Reader) -> Onward<'a>
-    ensures { λ r. ⌜ r ≡ onward (w .entry) (lookAt (now (w .entry .recording)) (w .entry .place) (w .entry .lost) reader) ⌝ }
-{
-    let s = recording::look(w.recording, w.place, w.lost, reader);
-    Onward {
-        walk: Walk {
-            recording: w.recording,
-            place: s.place,
-            lost: s.lost,
-        },
-        reader: s.reader,
-        answer: s.answer,
-    }
-}
-
-// The same from a place of a recording, as `step_from` is to `step`.
-pub fn look_from(recording: &[u8], place: usize, lost: bool, reader: Reader) -> Stepped
-    ensures { λ r. ⌜ r ≡ lookAt (now (recording .entry)) place lost reader ⌝ }
-{
-    let o = look(open(recording, place, lost), reader);
     Stepped {
         answer: o.answer,
         reader: o.reader,

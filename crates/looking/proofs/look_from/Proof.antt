@@ -1,4 +1,4 @@
--- `walk::look_from` meets its contract: a walk of its MIR, written by tools/gen_walk.py from tools/walk.desc.
+-- `looking::look_from` meets its contract: a walk of its MIR, written by tools/gen_walk.py from tools/walk.desc.
 use mathlib.Core.Path.{_≡_, refl, ap, _∙_}
 use mathlib.Core.Bool.{Bool}
 use mathlib.Core.List.{[], _∷_, List}
@@ -56,24 +56,24 @@ use Rattle.reader.proofs.Reader.Laws as Reader′
 use Rattle.recording.specs.declared.Answer.{Answer}
 use Rattle.recording.proofs.Answer as Answer
 use Rattle.recording.proofs.Answer.Laws as Answer′
 use Rattle.walk.proofs.open as open′
 use Rattle.walk.proofs.open.Symbol as open-def
 use Rattle.walk.proofs.open.Symbol.{name as #walk·open}
 use Rattle.walk.proofs.open.Met as open-thm
-use Rattle.walk.proofs.look as look′
-use Rattle.walk.proofs.look.Symbol as look-def
-use Rattle.walk.proofs.look.Symbol.{name as #walk·look}
-use Rattle.walk.proofs.look.Met as look-thm
-use Rattle.walk.proofs.look_from.Key.{name as #walk·look-from}
-use Rattle.walk.proofs.look_from as look-from′
-use Rattle.walk.proofs.look_from.Statement as stated
-use Rattle.walk.proofs.look_from.Code as code
+use Rattle.looking.proofs.look as look′
+use Rattle.looking.proofs.look.Symbol as look-def
+use Rattle.looking.proofs.look.Symbol.{name as #looking·look}
+use Rattle.looking.proofs.look.Met as look-thm
+use Rattle.looking.proofs.look_from.Key.{name as #looking·look-from}
+use Rattle.looking.proofs.look_from as look-from′
+use Rattle.looking.proofs.look_from.Statement as stated
+use Rattle.looking.proofs.look_from.Code as code
 
 -- the contract of `walk::open`, which the proof cites
 abbrev Open : {M : Type 1} (𝓤 : URA M) (H : Heap 𝓤) (A : Atoms 𝓤) (mem : Memory → SProp 𝓤) (run : Routine → Fun 𝓤) → Contract 𝓤
 Open 𝓤 H A mem run = tripleOf 𝓤 H A open′.signature (open′.spec 𝓤 H A mem run)
 
--- the contract of `walk::look`, which the proof cites
+-- the contract of `looking::look`, which the proof cites
 abbrev Look : {M : Type 1} (𝓤 : URA M) (H : Heap 𝓤) (A : Atoms 𝓤) (mem : Memory → SProp 𝓤) (run : Routine → Fun 𝓤) → Contract 𝓤
 Look 𝓤 H A mem run = tripleOf 𝓤 H A look′.signature (look′.spec 𝓤 H A mem run)
 
@@ -193,7 +193,7 @@ module _ {M : Type 1} (𝓤 : URA M) (H : Heap 𝓤) (A : Atoms 𝓤) (W : Given
       nothing ! $ owned ! Reader.the-row (Is Reader.the-row) (LL.makes Reader.the-type Reader′.the-plain 𝓤 H A) (the-reader) _ reader-is $ fjoin ! $ owned ! bool (Is bool) (bool-makes 𝓤 H A W) (x-lost) _ lost-is $ fjoin ! $ owned ! usize (Is usize) (uint-makes 𝓤 H A W w64) (x-place) _ place-is $ fjoin ! $ move ! (1 ∷ 0 ∷ []) $ fjoin ! $ frame ! $
       owned ! S.the-row (Is S.the-row) (LL.makes S.the-type S′.the-plain 𝓤 H A) (out o) _ is $ done !
 
-  module _ (C : Calls 𝓤 H) (Λ : Loops 𝓤 H) (fm : FmC 𝓤 H (W .laws) C) (known-open : Triple 𝓤 (C #walk·open) (Open 𝓤 H A mem run)) (known-look : Triple 𝓤 (C #walk·look) (Look 𝓤 H A mem run)) where
+  module _ (C : Calls 𝓤 H) (Λ : Loops 𝓤 H) (fm : FmC 𝓤 H (W .laws) C) (known-open : Triple 𝓤 (C #walk·open) (Open 𝓤 H A mem run)) (known-look : Triple 𝓤 (C #looking·look) (Look 𝓤 H A mem run)) where
     walk : Is (ShrSlice (named 0) κ u8) x-in (s x-in ∷ []) → ent 𝓤 (onEntry 𝓤 H A look-from′.signature κs qs x at) (WpFn 𝓤 H C Λ code.function (s x-in ∷ vint w64 (x-place) ∷ vbool (x-lost) ∷ LL.val Reader.the-type Reader′.the-laws the-reader ∷ []) Post)
     walk g =
         qed W (raw (onEntry 𝓤 H A look-from′.signature κs qs x at) ∷ []) ∵ enter ! C Λ code.function (s x-in ∷ vint w64 (x-place) ∷ vbool (x-lost) ∷ LL.val Reader.the-type Reader′.the-laws the-reader ∷ []) _ $
@@ -223,7 +223,7 @@ module _ {M : Type 1} (𝓤 : URA M) (H : Heap 𝓤) (A : Atoms 𝓤) (W : Given
         by ! (exits o (both-said w o e f) (is-out o u′ is))))))))))))))))))))))
 
 module _ {M : Type 1} (𝓤 : URA M) (H : Heap 𝓤) (A : Atoms 𝓤) (W : Given 𝓤 H A) (mem : Memory → SProp 𝓤) (run : Routine → Fun 𝓤) where
-  look-from-walks : (C : Calls 𝓤 H) (Λ : Loops 𝓤 H) → FmC 𝓤 H (W .laws) C → Triple 𝓤 (C #walk·open) (Open 𝓤 H A mem run) → Triple 𝓤 (C #walk·look) (Look 𝓤 H A mem run) → Walks 𝓤 H A look-from′.ended stayed (WpFn 𝓤 H C Λ code.function) (look-from′.clauses 𝓤 H A mem run)
+  look-from-walks : (C : Calls 𝓤 H) (Λ : Loops 𝓤 H) → FmC 𝓤 H (W .laws) C → Triple 𝓤 (C #walk·open) (Open 𝓤 H A mem run) → Triple 𝓤 (C #looking·look) (Look 𝓤 H A mem run) → Walks 𝓤 H A look-from′.ended stayed (WpFn 𝓤 H C Λ code.function) (look-from′.clauses 𝓤 H A mem run)
   look-from-walks C Λ fm known-open known-look = walked 𝓤 H A look-from′.ended stayed (look-from′.clauses 𝓤 H A mem run) (WpFn 𝓤 H C Λ code.function)
       (λ κs. (slice-vals, (uint-vals w64, (bool-vals, (LL.vals Reader.the-type Reader′.the-laws, tt)))))
       (λ κs. (shr-slice-tells (named 0) (κs .0) u8, (uint-tells w64, (bool-tells, (LL.tells Reader.the-type Reader′.the-laws, tt)))))
@@ -232,7 +232,7 @@ module _ {M : Type 1} (𝓤 : URA M) (H : Heap 𝓤) (A : Atoms 𝓤) (W : Given
   goes : AllGo 𝓤 H A W 1 (look-from′.signature .params) (look-from′.ended .kept) stayed
   goes = (goes-none-slice 𝓤 H A W 1 (0 ∷ []) tt (plain (λ _. u8)) yes, (goes-none 𝓤 H A W 1 (λ _. usize) yes (λ κs x f. refl), (goes-none 𝓤 H A W 1 (λ _. bool) yes (λ κs x f. refl), (goes-none 𝓤 H A W 1 (λ _. Reader.the-row) yes (λ κs x f. refl), tt))))
 
-look-from-meets : {M : Type 1} (𝓤 : URA M) (H : Heap 𝓤) (A : Atoms 𝓤) → Given 𝓤 H A → (mem : Memory → SProp 𝓤) (run : Routine → Fun 𝓤) (𝓣 : Tables 𝓤 H) → Triple 𝓤 (𝓣 .C #walk·open) (Open 𝓤 H A mem run) → Triple 𝓤 (𝓣 .C #walk·look) (Look 𝓤 H A mem run) → Meets 𝓤 H A look-from′.signature (WpFn 𝓤 H (𝓣 .C) (𝓣 .Λ) code.function) (look-from′.spec 𝓤 H A mem run)
+look-from-meets : {M : Type 1} (𝓤 : URA M) (H : Heap 𝓤) (A : Atoms 𝓤) → Given 𝓤 H A → (mem : Memory → SProp 𝓤) (run : Routine → Fun 𝓤) (𝓣 : Tables 𝓤 H) → Triple 𝓤 (𝓣 .C #walk·open) (Open 𝓤 H A mem run) → Triple 𝓤 (𝓣 .C #looking·look) (Look 𝓤 H A mem run) → Meets 𝓤 H A look-from′.signature (WpFn 𝓤 H (𝓣 .C) (𝓣 .Λ) code.function) (look-from′.spec 𝓤 H A mem run)
 look-from-meets 𝓤 H A W mem run 𝓣 known-open known-look =
     walk-meets 𝓤 H A look-from′.ended stayed W (goes 𝓤 H A W mem run) (look-from′.clauses 𝓤 H A mem run)
     (WpFn 𝓤 H (𝓣 .C) (𝓣 .Λ) code.function) (WpFn-mono 𝓤 H (W .laws) 𝓣 code.function) (look-from-walks 𝓤 H A W mem run (𝓣 .C) (𝓣 .Λ) (fmOf 𝓤 H (W .laws) 𝓣) known-open known-look)
@@ -241,7 +241,7 @@ pub look-from-spec : {M : Type 1} → stated.statement M
 unfolding code.routine tablesOf
 look-from-spec 𝓤 H 𝓜 𝓖 𝓡 =
     entered 𝓤 H (tripleOf 𝓤 H (𝓖 .A) look-from′.signature (look-from′.spec 𝓤 H (𝓖 .A) (𝓜 .mem) (𝓡 .run)))
-    (tables 𝓤 H 𝓜 𝓡 code.env .C) (tables 𝓤 H 𝓜 𝓡 code.env .Λ) #walk·look-from code.function (code.unfolded 𝓤 H 𝓜 𝓡)
+    (tables 𝓤 H 𝓜 𝓡 code.env .C) (tables 𝓤 H 𝓜 𝓡 code.env .Λ) #looking·look-from code.function (code.unfolded 𝓤 H 𝓜 𝓡)
     (look-from-meets 𝓤 H (𝓖 .A) (givenOf 𝓤 H 𝓜 𝓖) (𝓜 .mem) (𝓡 .run) (tablesOf 𝓤 H 𝓜 (tables 𝓤 H 𝓜 𝓡 code.env))
     (cited 𝓤 H (Open 𝓤 H (𝓖 .A) (𝓜 .mem) (𝓡 .run)) 𝓜 𝓡 code.env #walk·open open-def.routine code.calls-walk·open (open-thm.met 𝓤 H 𝓜 𝓖 𝓡))
-    (cited 𝓤 H (Look 𝓤 H (𝓖 .A) (𝓜 .mem) (𝓡 .run)) 𝓜 𝓡 code.env #walk·look look-def.routine code.calls-walk·look (look-thm.met 𝓤 H 𝓜 𝓖 𝓡)))
+    (cited 𝓤 H (Look 𝓤 H (𝓖 .A) (𝓜 .mem) (𝓡 .run)) 𝓜 𝓡 code.env #looking·look look-def.routine code.calls-looking·look (look-thm.met 𝓤 H 𝓜 𝓖 𝓡)))

@@ -1,4 +1,4 @@
--- `walk::look` meets its contract: a walk of its MIR, written by tools/gen_walk.py from tools/walk.desc.
+-- `looking::look` meets its contract: a walk of its MIR, written by tools/gen_walk.py from tools/walk.desc.
 use mathlib.Core.Path.{_≡_, refl, ap, subst}
 use mathlib.Core.List.{[], _∷_, List}
 use Prim.Native.Nat.{ℕ}
@@ -60,10 +60,10 @@ use Rattle.recording.proofs.look as at′
 use Rattle.recording.proofs.look.Symbol as at-def
 use Rattle.recording.proofs.look.Symbol.{name as #recording·look}
 use Rattle.recording.proofs.look.Met as at-thm
-use Rattle.walk.proofs.look.Key.{name as #walk·look}
-use Rattle.walk.proofs.look as look′
-use Rattle.walk.proofs.look.Statement as stated
-use Rattle.walk.proofs.look.Code as code
+use Rattle.looking.proofs.look.Key.{name as #looking·look}
+use Rattle.looking.proofs.look as look′
+use Rattle.looking.proofs.look.Statement as stated
+use Rattle.looking.proofs.look.Code as code
 
 -- the contract of `recording::look`, which the proof cites
 abbrev At : {M : Type 1} (𝓤 : URA M) (H : Heap 𝓤) (A : Atoms 𝓤) (mem : Memory → SProp 𝓤) (run : Routine → Fun 𝓤) → Contract 𝓤
@@ -228,6 +228,6 @@ pub look-spec : {M : Type 1} → stated.statement M
 unfolding code.routine tablesOf
 look-spec 𝓤 H 𝓜 𝓖 𝓡 =
     entered 𝓤 H (tripleOf 𝓤 H (𝓖 .A) look′.signature (look′.spec 𝓤 H (𝓖 .A) (𝓜 .mem) (𝓡 .run)))
-    (tables 𝓤 H 𝓜 𝓡 code.env .C) (tables 𝓤 H 𝓜 𝓡 code.env .Λ) #walk·look code.function (code.unfolded 𝓤 H 𝓜 𝓡)
+    (tables 𝓤 H 𝓜 𝓡 code.env .C) (tables 𝓤 H 𝓜 𝓡 code.env .Λ) #looking·look code.function (code.unfolded 𝓤 H 𝓜 𝓡)
     (look-meets 𝓤 H (𝓖 .A) (givenOf 𝓤 H 𝓜 𝓖) (𝓜 .mem) (𝓡 .run) (tablesOf 𝓤 H 𝓜 (tables 𝓤 H 𝓜 𝓡 code.env))
     (cited 𝓤 H (At 𝓤 H (𝓖 .A) (𝓜 .mem) (𝓡 .run)) 𝓜 𝓡 code.env #recording·look at-def.routine code.calls-recording·look (at-thm.met 𝓤 H 𝓜 𝓖 𝓡)))
