@@ -8,7 +8,7 @@ use recording::Stepped;
 use walk::Onward;
 use walk::Walk;
 
-// One step of a walk that hands out no voice and no data.
+// One step, over a walk that holds its recording.
 pub fn look<'a>(w: Walk<'a>, reader: Reader) -> Onward<'a>
     ensures { λ r. ⌜ r ≡ onward (w .entry) (lookAt (now (w .entry .recording)) (w .entry .place) (w .entry .lost) reader) ⌝ }
 {
