@@ -1,3 +1,3 @@
+pub mod Sources
 pub mod Frame
 pub mod Parts
-pub mod Sources

@@ -9,11 +9,12 @@ use Rattle.saving.specs.Saved.{saveAnswer, savedOver, readerOctets, readerIn}
 use Rattle.keeping.specs.declared.WalkState.{WalkState}
 use Rattle.keeping.specs.declared.WalkLoad.{WalkLoad}
 
--- its reader's 12 octets, the mark of a lost block, and the place in eight octets, the lowest first
+-- a number in k octets, the lowest first
 unfoldable pub lowFirst : ℕ → ℕ → List ℕ
 lowFirst zero n = []
 lowFirst (suc k) n = n % 256 ∷ lowFirst k (n / 256)
 
+-- a walk: its reader's 12 octets, the mark of a lost block, and the place in eight octets
 abbrev pub walkOctets : WalkState → List ℕ
 walkOctets w = readerOctets (w .reader) ++ (w .lost ∷ lowFirst 8 (w .place))
 

@@ -7,7 +7,7 @@ use Rattle.bits.specs.Bits.{numberAt}
 use Rattle.keeping.specs.SavedWalk.{lowFirst}
 use Rattle.saving.proofs.SavedLaws.{sender-back, reader-back}
 use Rattle.keeping.proofs.SavedWalkLaws.{walk-back}
-use Rattle.promises.specs.Saved.{Saves, SavesSender, SavesReader, SavesWalk, SenderForm, ReaderForm, WalkForm}
+use Rattle.promises.specs.Saved.{SavesSender, SavesReader, SavesWalk, SenderForm, ReaderForm, WalkForm}
 
 pub saves-sender : SavesSender
 saves-sender =
