@@ -1,16 +1,14 @@
--- A sending call in numbers is that of the sender: what `send_step` puts together, and that any two outcomes are equal.
+-- A sending call in numbers is that of the sender: what `send_step` puts together.
 use mathlib.Core.Path.{_≡_, ap, _∙_}
 use mathlib.Core.Bool.{Bool}
 use mathlib.Core.List.{List}
 use Prim.Native.Nat.{ℕ}
-use Rattle.bits.proofs.Settled.{settled}
 use Rattle.buffers.specs.Buffers.{Buffers}
 use Rattle.sending.specs.Step.{outcomeOf, lineOf, Told}
 use Rattle.sender.specs.declared.Sender.{Sender}
-use Rattle.control.specs.declared.Call.{Call}
 use Rattle.sending.specs.declared.Outcome.{Outcome}
 use Rattle.answers.specs.Answers.{sendAnswerOf}
-use Rattle.calls.specs.Sending.{on, callOf, sent, SendTold}
+use Rattle.calls.specs.Sending.{on, callOf, sent}
 use Rattle.answers.specs.declared.SendAnswer.{SendAnswer}
 
 pub sent-is : (s : Sender) (mute code a e t : ℕ) (b : Buffers) (line : List ℕ) (m x y z : Bool) (o : Outcome) (l : List ℕ) (n : SendAnswer)
@@ -23,8 +21,3 @@ sent-is s mute code a e t b line m x y z o l n em ex ey ez told en =
     let f : o ≡ outcomeOf s (callOf mute code a e t) b line = rw (em, ex, ey, ez) at (told .outcome) in
     let g : l ≡ lineOf s (callOf mute code a e t) b line = rw (em, ex, ey, ez) at (told .octets) in
     (λ i. record { state = f i .state; answer = (en ∙ ap (λ (p : Outcome). sendAnswerOf (p .answer)) f) i }, g)
-
--- any two outcomes that the contract of `delampuk_send` allows are equal
-pub delampuk-send-settled : (s : Sender) (c : Call) (b : Buffers) (line : List ℕ) (r q : SendAnswer) (n m : Sender) (l k : List ℕ)
-    → SendTold s c b line r n l → SendTold s c b line q m k → (r ≡ q) × (n ≡ m) × (l ≡ k)
-delampuk-send-settled s c b line r q n m l k x y = (settled (x .0) (y .0), settled (x .1) (y .1), settled (x .2) (y .2))

@@ -1,5 +1,4 @@
 -- Document 01, 'Finding alignment': a walk's step in the numbers that cross to C.
-use mathlib.Core.Path.{_≡_}
 use mathlib.Core.Bool.{Bool, cond}
 use mathlib.Core.List.{List}
 use Prim.Native.Nat.{ℕ}
@@ -9,7 +8,6 @@ use Rattle.modes.specs.Modes.{off}
 use Rattle.reader.specs.State.{freshIn}
 use Rattle.recording.specs.Walk.{stepAt, buffersAt}
 use Rattle.answers.specs.Answers.{reservedOctets, stepAnswerOf}
-use Rattle.answers.specs.declared.StepAnswer.{StepAnswer}
 use Rattle.calls.specs.Sending.{on}
 use Rattle.keeping.specs.declared.WalkState.{WalkState}
 use Rattle.calls.specs.declared.WalkStepped.{WalkStepped}
@@ -34,8 +32,3 @@ stepTaken w recording b =
 -- the buffers that it leaves
 abbrev pub stepBuffers : WalkState → List ℕ → Buffers → Buffers
 stepBuffers w recording b = buffersAt recording (w .place) (on (w .lost)) (w .reader) b
-
--- all that the contract of `delampuk_step` says of its answer `r`, and of the lent walk `n` and the buffers at exit, `after`
-abbrev pub StepTold : WalkState → List ℕ → Buffers → StepAnswer → WalkState → Buffers → Type 0
-StepTold w recording b r n after =
-    (r ≡ (stepTaken w recording b) .answer) × (n ≡ (stepTaken w recording b) .state) × (after ≡ stepBuffers w recording b)

@@ -1,23 +1,21 @@
 // What a card driver in C calls. States are lent, answers are numbers, and no call asks anything of its numbers and lengths: each of them is
-// answered. A call over a lent state is thin over one by value, and stands in a form that tools/gen_drive.py writes the proof of.
+// answered. A call over a lent state is thin over one by value, in a form that `lending` has the law of.
 ghost use mathlib.Core.Path.{_≡_};
 ghost use Rattle.buffers.specs.Buffers.{each};
 ghost use Rattle.modes.specs.Modes.{audioOff, off};
 ghost use Rattle.search.specs.Finding.{searchOf};
-ghost use Rattle.sending.specs.Step.{lineOf};
 ghost use Rattle.sender.specs.State.{freshWith};
 ghost use Rattle.reader.specs.State.{freshIn};
-ghost use Rattle.reading.specs.Step.{buffersOf};
 ghost use Rattle.text.specs.Over.{Written};
 ghost use Rattle.scribe.specs.Listing.{listingOf};
 ghost use Rattle.answers.specs.Answers.{searchAnswerOf};
-ghost use Rattle.calls.specs.Sending.{callOf, sent};
-ghost use Rattle.calls.specs.Reading.{readTaken};
-ghost use Rattle.calls.specs.Walking.{walkFrom, stepTaken, stepBuffers};
-ghost use Rattle.presetting.specs.Presetting.{presetTaken, presetGiven};
+ghost use Rattle.calls.specs.Sending.{callOf};
+ghost use Rattle.calls.specs.Walking.{walkFrom};
+ghost use Rattle.presetting.specs.Presetting.{presetGiven};
 ghost use Rattle.saving.specs.Saved.{senderSaved, senderKept, senderLoaded, readerSaved, readerKept, readerLoaded};
 ghost use Rattle.keeping.specs.SavedWalk.{walkSaved, walkKept, walkLoaded};
 ghost use Rattle.asking.specs.Asked.{library, fitsVersion, senderTold, readerTold, countsOf, codeTold};
+ghost use Rattle.card.specs.Told.{SendTold, ReadTold, StepTold, PresetTold};
 use answers::ReadAnswer;
 use answers::SearchAnswer;
 use answers::SendAnswer;
@@ -73,9 +71,7 @@ pub extern "C" fn delampuk_send(
     lsd: &[u8],
     line: &mut [u8],
 ) -> SendAnswer
-    ensures { λ r. ⌜ (r ≡ sent (now (state .entry)) (callOf mute code a e t) (each (now (voice .entry)) (now (lsd .entry))) (now (line .entry)) .answer)
-        × (now (state .exit) ≡ sent (now (state .entry)) (callOf mute code a e t) (each (now (voice .entry)) (now (lsd .entry))) (now (line .entry)) .state)
-        × (now (line .exit) ≡ lineOf (now (state .entry)) (callOf mute code a e t) (each (now (voice .entry)) (now (lsd .entry))) (now (line .entry))) ⌝ }
+    ensures { λ r. ⌜ SendTold (now (state .entry)) (callOf mute code a e t) (each (now (voice .entry)) (now (lsd .entry))) (now (line .entry)) r (now (state .exit)) (now (line .exit)) ⌝ }
 {
     let stepped = calls::send_step(*state, mute, code, a, e, t, voice, lsd, line);
     *state = stepped.state;
@@ -112,7 +108,7 @@ pub extern "C" fn delampuk_load_sender(state: &mut Sender, saved: &[u8]) -> u8
 // A preset's state to start from, and the data code to offer; or a refusal, and the state as it was.
 #[no_mangle]
 pub extern "C" fn delampuk_read_preset(state: &mut Sender, bits: u16) -> PresetAnswer
-    ensures { λ r. ⌜ (r ≡ presetTaken (now (state .entry)) bits .answer) × (now (state .exit) ≡ presetTaken (now (state .entry)) bits .state) ⌝ }
+    ensures { λ r. ⌜ PresetTold (now (state .entry)) bits r (now (state .exit)) ⌝ }
 {
     let stepped = presetting::preset_step(*state, bits);
     *state = stepped.state;
@@ -145,9 +141,7 @@ pub extern "C" fn delampuk_read(
     voice: &mut [u8],
     lsd: &mut [u8],
 ) -> ReadAnswer
-    ensures { λ r. ⌜ (r ≡ readTaken (now (state .entry)) (now (line .entry)) (each (now (voice .entry)) (now (lsd .entry))) .answer)
-        × (now (state .exit) ≡ readTaken (now (state .entry)) (now (line .entry)) (each (now (voice .entry)) (now (lsd .entry))) .state)
-        × (each (now (voice .exit)) (now (lsd .exit)) ≡ buffersOf (now (state .entry)) (now (line .entry)) (each (now (voice .entry)) (now (lsd .entry)))) ⌝ }
+    ensures { λ r. ⌜ ReadTold (now (state .entry)) (now (line .entry)) (each (now (voice .entry)) (now (lsd .entry))) r (now (state .exit)) (each (now (voice .exit)) (now (lsd .exit))) ⌝ }
 {
     let stepped = calls::read_step(*state, line, voice, lsd);
     *state = stepped.state;
@@ -207,9 +201,7 @@ pub extern "C" fn delampuk_step(
     voice: &mut [u8],
     lsd: &mut [u8],
 ) -> StepAnswer
-    ensures { λ r. ⌜ (r ≡ stepTaken (now (state .entry)) (now (recording .entry)) (each (now (voice .entry)) (now (lsd .entry))) .answer)
-        × (now (state .exit) ≡ stepTaken (now (state .entry)) (now (recording .entry)) (each (now (voice .entry)) (now (lsd .entry))) .state)
-        × (each (now (voice .exit)) (now (lsd .exit)) ≡ stepBuffers (now (state .entry)) (now (recording .entry)) (each (now (voice .entry)) (now (lsd .entry)))) ⌝ }
+    ensures { λ r. ⌜ StepTold (now (state .entry)) (now (recording .entry)) (each (now (voice .entry)) (now (lsd .entry))) r (now (state .exit)) (each (now (voice .exit)) (now (lsd .exit))) ⌝ }
 {
     let stepped = calls::walk_step(*state, recording, voice, lsd);
     *state = stepped.state;

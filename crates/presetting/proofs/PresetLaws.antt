@@ -1,15 +1,14 @@
--- A preset read into a state: what `preset_step` puts together, and that any two outcomes are equal.
+-- A preset read into a state: what `preset_step` puts together.
 use mathlib.Core.Path.{_≡_, sym, ap, _∙_}
 use mathlib.Core.Bool.{true, false}
 use Prim.Native.Nat.{ℕ}
 use lib.Dec.{eqb}
 use borrow.Author.Tests.{eq-eqb, ne-eqb}
-use Rattle.bits.proofs.Settled.{settled}
 use Rattle.presets.specs.Presets.{presetRead, presetNumber}
 use Rattle.presets.specs.declared.PresetRead.{PresetRead}
 use Rattle.sender.specs.declared.Sender.{Sender}
 use Rattle.presetting.specs.declared.PresetAnswer.{PresetAnswer}
-use Rattle.presetting.specs.Presetting.{presetAnswerOf, presetTaken, PresetTold}
+use Rattle.presetting.specs.Presetting.{presetAnswerOf, presetTaken}
 
 module _ (s : Sender) (bits : ℕ) (p : PresetRead) (n : PresetAnswer) (ep : p ≡ presetRead bits) (en : n ≡ presetAnswerOf p) where
   number : n .number ≡ presetNumber ((presetRead bits) .answer)
@@ -24,8 +23,3 @@ module _ (s : Sender) (bits : ℕ) (p : PresetRead) (n : PresetAnswer) (ep : p �
   preset-refused-is some =
       let given : eqb (presetNumber ((presetRead bits) .answer)) 0 ≡ false = ne-eqb _ _ (λ z. some (number ∙ z)) in
       rw given (λ i. record { state = s; answer = (en ∙ ap presetAnswerOf ep) i })
-
--- any two outcomes that the contract of `delampuk_read_preset` allows are equal
-pub delampuk-read-preset-settled : (s : Sender) (bits : ℕ) (r q : PresetAnswer) (n m : Sender)
-    → PresetTold s bits r n → PresetTold s bits q m → (r ≡ q) × (n ≡ m)
-delampuk-read-preset-settled s bits r q n m x y = (settled (x .0) (y .0), settled (x .1) (y .1))

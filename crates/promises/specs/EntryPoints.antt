@@ -35,10 +35,9 @@ use Rattle.answers.specs.declared.SearchAnswer.{SearchAnswer}
 use Rattle.answers.specs.declared.StepAnswer.{StepAnswer}
 use Rattle.presetting.specs.declared.PresetAnswer.{PresetAnswer}
 use Rattle.presetting.specs.declared.PresetBits.{PresetBits}
-use Rattle.calls.specs.Sending.{callOf, SendTold}
-use Rattle.calls.specs.Reading.{ReadTold}
-use Rattle.calls.specs.Walking.{StepTold}
-use Rattle.presetting.specs.Presetting.{PresetTold, presetGiven}
+use Rattle.calls.specs.Sending.{callOf}
+use Rattle.card.specs.Told.{SendTold, ReadTold, StepTold, PresetTold}
+use Rattle.presetting.specs.Presetting.{presetGiven}
 use Rattle.keeping.specs.declared.WalkState.{WalkState}
 use Rattle.promises.specs.Demand1.{Row, row, first, Refuses, held, sendingRows, readingRows, searchingRows, steppingRows}
 

@@ -14,8 +14,8 @@ use Rattle.track.specs.declared.Verdict.the-variants.{None, Good}
 use Rattle.answers.specs.Answers.{sendAnswerOf}
 use Rattle.buffers.specs.Buffers.{Buffers, lengths}
 use Rattle.buffers.specs.Lengths.{streamOctets}
-use Rattle.calls.specs.Sending.{callOf, SendTold}
-use Rattle.calls.specs.Reading.{ReadTold}
+use Rattle.calls.specs.Sending.{callOf}
+use Rattle.card.specs.Told.{SendTold, ReadTold}
 use Rattle.answers.specs.declared.SendAnswer.{SendAnswer}
 use Rattle.answers.specs.declared.ReadAnswer.{ReadAnswer}
 use Rattle.promises.specs.Session.{Turn, Left, Allowed, Entry, blockSent}

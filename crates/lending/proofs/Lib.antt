@@ -1,0 +1,9 @@
+pub mod Kind
+pub mod Telling
+pub mod Saving
+pub mod Starting
+pub mod StartingAt
+pub mod Loading
+pub mod Presetting
+pub mod Sending
+pub mod Reading
