@@ -171,8 +171,8 @@ listing-ends recording p e =
     let f = found-fits recording 0 p e in
     rw e (ends-after (numberLine "found " p) _ (enough recording (length recording) p false begun 0 (omega (arith, f .2)) (omega (arith, f .2))))
 
--- ---- how long a listing is: 20 octets for a block of lineOctets, and 12 for a place found after a lost one. So the lines of a walk from a
--- place on take a fifth of the octets left, and a little more
+-- ---- how long a listing is: 20 octets for a block of lineOctets, and for a lost one 17 and the 12 of the place found after it. So the lines
+-- of a walk from a place on take a fifth of the octets left, and a little more
 abbrev Short : List ℕ → ℕ → Type 0
 Short recording n =
     (place : ℕ) (lost : Bool) (s : Reader) (count : ℕ) → place ≤ length recording → count * lineOctets ≤ place

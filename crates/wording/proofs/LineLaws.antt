@@ -1,8 +1,10 @@
 -- Laws of a line: how long it is.
+use mathlib.Core.Path.{_≡_, refl}
 use Prim.Native.String.{String}
-use Prim.Native.Nat.{ℕ, _+_, _≤_, _<_}
+use Prim.Native.Nat.{ℕ, _+_, _*_, _≤_, _<_}
 use native.Mathlib.Omega.{arith}
 use lib.ListN.{length, length-append}
+use Rattle.bits.specs.Bits.{digit}
 use Rattle.words.specs.declared.Reading.{Reading}
 use Rattle.words.specs.declared.Reading.the-variants.{Mended, Item, MessageWord, ForbiddenItem, NotFollowed, Unreadable, NotRead}
 use Rattle.digits.specs.Digits.{hexOf}
@@ -13,13 +15,14 @@ use Rattle.track.specs.declared.Standing.{Standing}
 use Rattle.track.specs.declared.Standing.the-variants.{Waiting, Read, Lost}
 use Rattle.track.specs.declared.Verdict.{Verdict}
 use Rattle.track.specs.declared.Verdict.the-variants.{None, Good, Bad}
+use Rattle.recording.specs.Walk.{isLost}
 use Rattle.wording.specs.Lines.{numberLine, standingText, verdictText, codeText, blockLine}
 
-standing-length : (q : Standing) → length (standingText q) ≤ 7
+standing-length : (report : Report) (q : Standing) → report .standing ≡ q → length (standingText q) + 3 * digit (isLost report) ≤ 7
 unfolding textOf
-standing-length Waiting = omega arith
-standing-length Read = omega arith
-standing-length Lost = omega arith
+standing-length report Waiting e = rw e (omega arith)
+standing-length report Read e = rw e (omega arith)
+standing-length report Lost e = rw e (omega arith)
 
 verdict-length : (v : Verdict) → length (verdictText v) ≤ 4
 unfolding textOf
@@ -37,11 +40,12 @@ code-length (NotFollowed code) = omega arith
 code-length Unreadable = omega arith
 code-length NotRead = omega arith
 
-pub block-length : (count : ℕ) (report : Report) → count < 1000 → length (blockLine count report) ≤ 20
+-- a line of a block has 20 octets at most, and of a lost one 17, which leaves room for the line of a place found after it
+pub block-length : (count : ℕ) (report : Report) → count < 1000 → length (blockLine count report) + 3 * digit (isLost report) ≤ 20
 unfolding blockLine textOf
 block-length count report h =
     simp length-append
-    (omega (arith, decimal-three count h, standing-length (report .standing), verdict-length (report .verdict), code-length (report .reading)))
+    (omega (arith, decimal-three count h, standing-length report (report .standing) refl, verdict-length (report .verdict), code-length (report .reading)))
 
 -- a line of a word and a number, whatever the word
 pub number-length : (word : String) (k n : ℕ) → length (textOf word) ≤ k → n < 100000 → length (numberLine word n) ≤ k + 6
