@@ -38,34 +38,15 @@ The proof goes through the function's MIR step by step, and each step names what
 script keeps that list and prints the positions.
 
 A description is Python: see lending.desc. An answer is "struct", or a number's type as Rust has it."""
-import re
 import sys
 from collections import namedtuple
+
+from walking import Held, dash, listed, nest, product, subscript, trimmed
 
 WIDTH = {"u8": 8, "u16": 16, "u32": 32, "u64": 64, "usize": 64}
 
 
-# ---- how things are written in antt
-def dash(name):
-    return name.replace("_", "-")
-
-
-def listed(xs):
-    return "".join(f"{x} ∷ " for x in xs) + "[]"
-
-
-def tupled(xs):
-    return "".join(f"({x}, " for x in xs) + "tt" + ")" * len(xs)
-
-
-def product(xs):
-    return "".join(f"{x} × (" for x in xs) + "Unit {0}" + ")" * len(xs)
-
-
-def low(number):
-    return "".join("₀₁₂₃₄₅₆₇₈₉"[int(c)] for c in str(number))
-
-
+# ---- pieces of text
 def nth(name, i):
     """the i-th of a nested tuple"""
     return f"({name}{' .1' * i} .0)"
@@ -197,41 +178,6 @@ SHR = Borrow(
 )
 
 
-class Held:
-    """What is held, in order, by labels; it turns labels into the positions that a rule is written with."""
-
-    def __init__(self, labels):
-        self.labels = list(labels)
-
-    def at(self, label):
-        return self.labels.index(label)
-
-    def local(self, i):
-        return self.at(f"_{i}")
-
-    def move(self, *labels):
-        """these to the head, in this order"""
-        places = [self.at(label) for label in labels]
-        if places == list(range(len(places))):
-            return ""
-        self.labels = list(labels) + [x for x in self.labels if x not in labels]
-        return f"move ! ({listed(places)}) $ "
-
-    def swap(self, count, *labels):
-        """the first `count` become these"""
-        self.labels = list(labels) + self.labels[count:]
-
-    def split(self, rule, label, *into):
-        text = self.move(label) + f"{rule} ! $ "
-        self.swap(1, *into)
-        return text
-
-    def join(self, rule, label, onto):
-        text = self.move(label, onto) + f"{rule} ! $ "
-        self.swap(2, onto)
-        return text
-
-
 # What every proof may import; the names that one does not use are left out of it.
 IMPORTS = """\
 use mathlib.Core.Path.{_≡_, refl, ap, subst}
@@ -279,23 +225,6 @@ use denote.Triple.Table.{entered, cited}
 use denote.Triple.Walked.{says, Stays, stay-ref, stay-none-ref, stay-none, stay-none-slice, gave-slice, walkOf, AllGo, goes-ref, goes-none-ref, goes-none, goes-none-slice, goes-gave-slice, Walks, ends-at, walked, walk-meets}
 use denote.Exit.{yes}
 use Rattle.lending.proofs.Kind.{Kind, rowOf, fieldOf, fieldLaws, Stepped, steppedType, steppedLaws}"""
-
-
-def trimmed(text):
-    """the text without the imported names that it does not use"""
-    whole = text.split("\n")
-    body = "\n".join(line for line in whole if not line.startswith("use "))
-    words = set(re.split(r"[\s(){},;.]+", body))
-    kept = []
-    for line in whole:
-        names, module = re.match(r"use (\S+)\.\{(.*)\}$", line), re.match(r"use \S+ as (\S+)$", line)
-        if names:
-            used = [x for x in names.group(2).split(", ") if x.split(" as ")[-1].strip("_") in words]
-            if used:
-                kept.append(f"use {names.group(1)}.{{{', '.join(used)}}}")
-        elif not module or module.group(1) in words:
-            kept.append(line)
-    return "\n".join(kept)
 
 
 BOUND = "(((κ, κs), (q, qs), tt, x, at), tt)"
@@ -380,7 +309,7 @@ class Law:
             part()
         body = "\n".join(self.lines).rstrip().split("\n")
         head = [f"-- {self.about} Written by tools/gen_lending.py: change the description and write it anew.", self.comment, IMPORTS, ""]
-        return trimmed("\n".join(head + [f"module _ {self.over} where"] + ["  " + line if line else "" for line in body])) + "\n"
+        return trimmed("\n".join(head + [f"module _ {self.over} where"] + ["  " + line if line else "" for line in body]))
 
     def contracts(self):
         n, result = len(self.lent), self.answer.row if self.answer else "unit"
@@ -396,7 +325,7 @@ class Law:
         self.says("said-lent", "lent", " ".join([self.lent_tells[0]] + told + self.lent_tells[1:] + self.at_exit(1)))
         self.say("-- what is had of each parameter at exit")
         self.say("abbrev stayed : Stays (lent .signature .params) (lent .kept)")
-        self.say(f"stayed = {tupled([self.borrow.stays] + self.numbered(Param.stays, 1))}\n")
+        self.say(f"stayed = {nest([self.borrow.stays] + self.numbered(Param.stays, 1))}\n")
         self.say("-- the contract that the proof cites")
         self.say("abbrev pub Step : {M : Type 1} (𝓤 : URA M) (H : Heap 𝓤) (A : Atoms 𝓤) → Contract 𝓤")
         self.say("Step 𝓤 H A = tripleOf 𝓤 H A (by-value .signature) (closing 𝓤 H A by-value (said 𝓤))\n")
@@ -404,7 +333,7 @@ class Law:
     def ended(self, name, lifetimes, slots, result):
         self.say(f"abbrev {name} : Ended")
         signature = f"record {{ lifetimes = {lifetimes}; outlives = []; params = {listed(slots)}; result = plain (λ κs. {result}) }}"
-        self.say(f"{name} = record {{ signature = {signature}; kept = {tupled(['yes'] * len(slots))} }}\n")
+        self.say(f"{name} = record {{ signature = {signature}; kept = {nest(['yes'] * len(slots))} }}\n")
 
     def passed_from(self, first):
         """what the parameters were passed as, the first of them at that place of the arguments"""
@@ -452,15 +381,15 @@ class Law:
         binders = "".join(f" ({p.var} : {p.denotes})" for p in self.params) + "".join(" " + fact for fact in self.numbered(Param.binds_fact, 1))
         self.say(f"module _ {{M : Type 1}} (𝓤 : URA M) (H : Heap 𝓤) (A : Atoms 𝓤) (W : Given 𝓤 H A) ({lifetimes} : Lft) ({shares} : Share) (b o : ℕ) (γ : GName) (h : {self.state.denotes}){binders} where")
         self.say("  -- the callee's lifetimes and shares, and the buffers' tokens")
-        self.abbreviation("κs", f"Lfts {len(self.lent)}", tupled([p.lifetime for p in self.lent]))
-        self.abbreviation("qs", f"Shares {len(self.lent)}", tupled([p.share for p in self.lent]))
+        self.abbreviation("κs", f"Lfts {len(self.lent)}", nest([p.lifetime for p in self.lent]))
+        self.abbreviation("qs", f"Shares {len(self.lent)}", nest([p.share for p in self.lent]))
         self.abbreviation("tokens", "Item 𝓤", "".join(f"‵ (flft {p.lifetime} {p.share}) ⊛ " for p in self.lent) + "‵ ftrue")
         self.machine_values()
         self.say("  -- the arguments but the state, and their machine values")
         self.abbreviation("Rest", "Type 0", product([p.denotes for p in self.params]))
-        self.abbreviation("rest", "Rest", tupled([p.var for p in self.params]))
+        self.abbreviation("rest", "Rest", nest([p.var for p in self.params]))
         self.abbreviation("RestVals", "Type 0", product(["List Val" for p in self.params]))
-        self.abbreviation("rest-vals", "RestVals", tupled([f"{p.machine} ∷ []" for p in self.params]))
+        self.abbreviation("rest-vals", "RestVals", nest([f"{p.machine} ∷ []" for p in self.params]))
         self.abbreviation("x", f"RefT {self.state.denotes} × Rest", "(record { ptr = (b, o); name = γ; now = h }, rest)")
         self.abbreviation("at", "List Val × RestVals", "(vptr b o ∷ [], rest-vals)")
         self.say("  -- what the callee says")
@@ -528,8 +457,8 @@ class Law:
         self.say(f"  exits : {' '.join(takes)} → {' → '.join(facts)}")
         self.say(f"      → ent 𝓤 (⋆ 𝓤 H A ({listed(items)})) (Post (answer r))")
         self.say(f"  exits {' '.join(names)} =")
-        values = tupled([self.borrow.left.format(x=self.last_state)] + [p.last if p.kind == "mut" else "tt" for p in self.params])
-        fits = tupled(["tt"] + [p.same_length if p.kind == "mut" else "tt" for p in self.params])
+        values = nest([self.borrow.left.format(x=self.last_state)] + [p.last if p.kind == "mut" else "tt" for p in self.params])
+        fits = nest(["tt"] + [p.same_length if p.kind == "mut" else "tt" for p in self.params])
         self.say(f"      qed W ({listed(items)}) ∵")
         self.say(f"      suffices ! _ (ends-at 𝓤 H A lent stayed (said-lent 𝓤) W {BOUND} (answer r) ({self.answered}) {values} {fits}) $")
         self.say(f"      says ! ({self.shown}) $")
@@ -569,7 +498,7 @@ class Law:
     def enters(self, machine):
         rows = listed([self.borrow.row] + self.rows(1))
         self.rule(f"qed W ((‵ (flft κ q) ⊛ tokens) ∷ ‵ (owns ({rows}) x at) ∷ []) ∵ enter ! C Λ (code callee) ({machine}) _ $")
-        self.rule("".join(f"alloc1 ! (λ l{low(i)}. " for i in range(self.next_local)) + "alloc0 ! $ params1 ! $")
+        self.rule("".join(f"alloc1 ! (λ l{subscript(i)}. " for i in range(self.next_local)) + "alloc0 ! $ params1 ! $")
         types = ["(tt, tt)"] + self.numbered(Param.typed, 1)
         self.rule("".join(f"pass1 ! (init ! {self.held.local(i + 1)} refl {t}) $ " for i, t in enumerate(types)) + "pass0 ! $")
 
@@ -650,7 +579,7 @@ class Law:
         """what the callee returned is in its local, spelled as its type says"""
         held = self.held
         self.rule(held.split("split", "result", "tokens", "r") + held.move("r") + peeked(self.result, "r", "w") + " (λ is.")
-        at, cell = held.local(self.result_local), f"‵ (fat fullShare {self.result.mir} l{low(self.result_local)} 0 u)"
+        at, cell = held.local(self.result_local), f"‵ (fat fullShare {self.result.mir} l{subscript(self.result_local)} 0 u)"
         self.rule(f"land ! (from ! (stop !)) (init ! {at} refl {typed(self.result, 'r', 'is')}) $ rewrite ! {at} (λ (u : Val). {cell}) (ap only ({self.result.tells} r _ is)) refl $ drop ! $")
         held.swap(1)
         self.shows_held()
@@ -691,14 +620,14 @@ class Law:
         self.say("module _ {M : Type 1} (𝓤 : URA M) (H : Heap 𝓤) (A : Atoms 𝓤) (W : Given 𝓤 H A) where")
         self.say("  walks : (callee : Name) (C : Calls 𝓤 H) (Λ : Loops 𝓤 H) → FmC 𝓤 H (W .laws) C → Triple 𝓤 (C callee) (Step 𝓤 H A) → Walks 𝓤 H A lent stayed (WpFn 𝓤 H C Λ (code callee)) (said-lent 𝓤)")
         self.say("  walks callee C Λ fm known = walked 𝓤 H A lent stayed (said-lent 𝓤) (WpFn 𝓤 H C Λ (code callee))")
-        self.say(f"      (λ κs. {tupled(['ptr-vals'] + [p.spelled for p in self.params])})")
-        self.say(f"      (λ κs. {tupled([self.borrow.tells] + self.numbered(Param.tells, 1))})")
+        self.say(f"      (λ κs. {nest(['ptr-vals'] + [p.spelled for p in self.params])})")
+        self.say(f"      (λ κs. {nest([self.borrow.tells] + self.numbered(Param.tells, 1))})")
         given = [nth("κs", i) for i in range(n)] + [nth("qs", i) for i in range(n)]
         given += ["(a .0 .ptr .0)", "(a .0 .ptr .1)", "(a .0 .name)", "(a .0 .now)"]
         given += [nth("a", i + 1) for i in range(len(self.params))] + [nth("are", i + 1) for i in range(len(self.params))]
         self.say(f"      (λ κs qs bounds a g are. via 𝓤 _ (fst∗ 𝓤 _ (emp 𝓤)) (walk 𝓤 H A W {' '.join(given)} callee C Λ fm known))\n")
         self.say("  goes : AllGo 𝓤 H A W {} (lent .signature .params) (lent .kept) stayed".format(n))
-        self.say(f"  goes = {tupled([self.borrow.goes.format(count=n)] + self.numbered(lambda p, at: p.goes(at, n), 1))}\n")
+        self.say(f"  goes = {nest([self.borrow.goes.format(count=n)] + self.numbered(lambda p, at: p.goes(at, n), 1))}\n")
         self.say("  meets : (callee : Name) (𝓣 : Tables 𝓤 H) → Triple 𝓤 (𝓣 .C callee) (Step 𝓤 H A)")
         self.say("      → Meets 𝓤 H A (lent .signature) (WpFn 𝓤 H (𝓣 .C) (𝓣 .Λ) (code callee)) (closing 𝓤 H A lent (said-lent 𝓤))")
         self.say("  meets callee 𝓣 known = walk-meets 𝓤 H A lent stayed W goes (said-lent 𝓤)")

@@ -19,6 +19,8 @@ import re
 import sys
 from collections import namedtuple
 
+from walking import Held, dash, listed, nest, product, subscript, trimmed
+
 # ---- the description
 
 D = {}
@@ -80,23 +82,6 @@ def fill(template, **names):
     return template
 
 
-def dash(name):
-    return name.replace("_", "-")
-
-
-def nest(xs, end="tt"):
-    """a tuple, nested to the right"""
-    return "".join(f"({x}, " for x in xs) + end + ")" * len(xs)
-
-
-def product(xs, end="Unit {0}"):
-    return "".join(f"{x} × (" for x in xs) + end + ")" * len(xs)
-
-
-def listed(xs):
-    return "".join(f"{x} ∷ " for x in xs) + "[]"
-
-
 def types_of(xs):
     return "".join(f"tcons ({x}) (" for x in xs) + "tnil" + ")" * len(xs)
 
@@ -125,49 +110,9 @@ def record(pairs):
     return "record { " + "; ".join(f"{f} = {x}" for f, x in pairs) + " }"
 
 
-def subscript(i):
-    return "".join("₀₁₂₃₄₅₆₇₈₉"[int(c)] for c in str(i))
-
-
-class Context:
-    """a context as a list of labels, which turns labels into the positions that a rule is written with"""
-
-    def __init__(self, labels):
-        self.labels = list(labels)
-
-    def at(self, label):
-        return self.labels.index(label)
-
-    def local(self, i):
-        return self.at(f"_{i}")
-
-    def move(self, *labels):
-        """these to the head, in this order"""
-        positions = [self.at(x) for x in labels]
-        if positions == list(range(len(positions))):
-            return ""
-        self.labels = list(labels) + [x for x in self.labels if x not in labels]
-        return f"move ! ({listed(positions)}) $ "
-
-    def swap(self, count, *labels):
-        """the first `count` entries become these"""
-        self.labels = list(labels) + self.labels[count:]
-
-    def join(self, rule, *labels):
-        """these two become one, under the second label"""
-        text = self.move(*labels) + f"{rule} ! $ "
-        self.swap(2, labels[1])
-        return text
-
-    def split(self, label, *into):
-        text = self.move(label) + "split ! $ "
-        self.swap(1, *into)
-        return text
-
-
 def locals_context(count, *rest):
     """after the allocations: each local, with what frees it, the last first; then the rest"""
-    return Context([x for i in reversed(range(count)) for x in (f"_{i}", f"free {i}")] + list(rest))
+    return Held([x for i in reversed(range(count)) for x in (f"_{i}", f"free {i}")] + list(rest))
 
 
 def allocated(count):
@@ -697,7 +642,7 @@ OPENED = f"""use1 W (given (mach ∷ [] ≡ mach ∷ []) (‵ (all-own («walk_t
 
 def step_asked():
     """what the callee asks, out of what the parameters own"""
-    c = Context(["slice", "exit's", "result's", "rest", "tokens"])
+    c = Held(["slice", "exit's", "result's", "rest", "tokens"])
     text = c.move("rest")
     for f, fact in reversed(list(zip(MOVED, TAKEN_FACTS))):
         text += owned(FIELD[f], f"d .{f}", fact) + "fjoin ! $ "
@@ -709,7 +654,7 @@ def step_asked():
 
 def step_exits():
     """what is had of the parameters at exit"""
-    c = Context(["none"] + [f"last {p}" for p in LENT] + ["exit's", "result's"])
+    c = Held(["none"] + [f"last {p}" for p in LENT] + ["exit's", "result's"])
     return "nothing ! $ " + rebuilt(c, "none") + c.join("fjoin", "exit's", "none") + "frame ! $"
 
 
@@ -752,7 +697,7 @@ def step_walk():
     steps.append(returned("r", STEPPED, "S.the-row", "(‵ (flft κ q) ⊛ tokens)", "w", "at", "κs", HANDED))
     steps.append(at_some_lists("at", HANDED, before, said_here))
     steps.append(f"split ! $ move ! (1 ∷ []) $ heard ! ({said_here}) (λ e. {last_lists(c, before)}")
-    steps.append(c.split("result", "tokens", "own") + c.move("own") + "peeks ! S.the-row (Is S.the-row) (shows «u» S.the-row) r (w ∷ []) (λ is.")
+    steps.append(c.split("split", "result", "tokens", "own") + c.move("own") + "peeks ! S.the-row (Is S.the-row) (shows «u» S.the-row) r (w ∷ []) (λ is.")
     steps.append(landed(c, came, "S.the-type S′.the-laws", "S.the-type S′.the-laws", "S′.mir", "r"))
     steps.append("-- the result")
     steps.append(assigned(c, again, f"of-opd ! ({field_of(c, 1, walk_fields[0], types='walk-types')})", "(tt, wt .1 .0)"))
@@ -762,7 +707,7 @@ def step_walk():
     steps.append(assigned(c, 0, f"agg ! {loads(c, [moved] + [came_with[f] for f in CARRIED])}",
                           "(LL.lawful (U.the-type α) (U′.the-laws α) «u» W .typed (result r) _ (is-onward g r (stepped r w is)) .0)"))
     steps.append(left(c, count))
-    steps.append(c.split("owns", "exit's", "result's") + c.move("tokens", *[f"last {p}" for p in LENT], "exit's", "result's")
+    steps.append(c.split("split", "owns", "exit's", "result's") + c.move("tokens", *[f"last {p}" for p in LENT], "exit's", "result's")
                  + f"by ! (exits r {' '.join(lists)} e «same» (stepped r w is))")
     return closed(steps, count), count
 
@@ -882,10 +827,10 @@ PART_OF = {f: f"o .{HELD} .{f}" if f in MOVED else f"o .{f}" for f in FIELD}
 
 def goes_open():
     """what `open` asks, beside what `step` will ask and what is kept"""
-    c = Context(["slice", "kept", "rest", "all tokens"])
+    c = Held(["slice", "kept", "rest", "all tokens"])
     text = c.move("rest") + "fsplit ! $ drop ! $ " * len(MOVED) + "nothing ! $ " + MADE_OWNED
     c.swap(0, "asked")
-    text += c.join("fjoin", "slice", "asked") + c.split("all tokens", "token", "tokens") + "nothing ! $ "
+    text += c.join("fjoin", "slice", "asked") + c.split("split", "all tokens", "token", "tokens") + "nothing ! $ "
     c.swap(0, "none")
     text += c.join("join", "token", "none") + c.move("none", "asked")
     text += f"use2 W (raw (Open «u» mem run .pre to-open)) (qed W (token ∷ ‵ (owns ({listed(SLICE_ROWS)}) {nest(MADE)} {nest(MADE_VALUES)}) ∷ []) ∵ join ! $ frame ! $ done !) $ "
@@ -894,7 +839,7 @@ def goes_open():
 
 
 def step_from_exits():
-    c = Context(["none"] + [f"last {p}" for p in LENT] + ["kept"])
+    c = Held(["none"] + [f"last {p}" for p in LENT] + ["kept"])
     return "nothing ! $ " + rebuilt(c, "none") + MADE_OWNED + c.join("fjoin", "kept", "none") + "frame ! $"
 
 
@@ -943,14 +888,14 @@ def step_from_walk():
     steps.append(f"land ! (from ! (stop !)) (init ! {c.local(made)} refl (LL.lawful (T.the-type αᵉ) (T′.the-laws αᵉ) «u» W .typed w _ isw .0)) $")
     steps += lend_on(c, own, buffers)
     steps.append("-- the call of `«step»`")
-    steps.append(c.split("others kept", "others", "kept") + c.move("walk", "token", "others") + "use3 W (raw («step_contract» «u» mem run .pre (to-step w u))) (goes-step w u) $")
+    steps.append(c.split("split", "others kept", "others", "kept") + c.move("walk", "token", "others") + "use3 W (raw («step_contract» «u» mem run .pre (to-step w u))) (goes-step w u) $")
     c.swap(3, "pre")
     steps.append(f"calls-at ! fm («step_contract» «u» mem run) known-«step» (to-step w u) {loads(c, [made] + [own[p] for p in PLAIN] + [buffers[p][1] for p in LENT])} (λ u′.")
     c.swap(1, "ensured", "result")
     steps.append(returned("o", ONWARD, "BU", "(‵ (flft κ q) ⊛ tokens)", "u′", STEP_NAME, "κs", "(w, rest)"))
     steps.append(at_some_lists(STEP_NAME, "(w, rest)", 1, said_here))
     steps.append(f"split ! $ move ! (1 ∷ []) $ heard ! ({said_here}) (λ f. {last_lists(c, 1)}")
-    steps.append(c.split("result", "tokens", "own") + c.move("own") + "peeks ! BU (Is BU) (shows «u» BU) o (u′ ∷ []) (λ is.")
+    steps.append(c.split("split", "result", "tokens", "own") + c.move("own") + "peeks ! BU (Is BU) (shows «u» BU) o (u′ ∷ []) (λ is.")
     steps.append(landed(c, came, "(U.the-type αᵉ) (U′.the-laws αᵉ)", "(U.the-type α) (U′.the-laws α)", "(U′.mir erased)", "o"))
     steps.append("-- the result, part by part")
     for f, t in FIELD.items():
@@ -983,23 +928,6 @@ def step_from_proof():
 
 
 # ---- the files
-
-
-def trimmed(text):
-    """the text without the imports that it does not use"""
-    body = "\n".join(x for x in text.split("\n") if not x.startswith("use "))
-    words = set(re.split(r"[\s(){},;.]+", body))
-    out = []
-    for line in text.split("\n"):
-        some, whole = re.match(r"use (\S+)\.\{(.*)\}$", line), re.match(r"use (\S+) as (\S+)$", line)
-        if some:
-            names = [x for x in some.group(2).split(", ") if x.split(" as ")[-1].strip("_") in words]
-            line = f"use {some.group(1)}.{{{', '.join(names)}}}" if names else None
-        elif whole and whole.group(2) not in words:
-            line = None
-        if line is not None:
-            out.append(line)
-    return "\n".join(out) + "\n"
 
 
 OWN = [("open", open_proof)] if CRATE == HOME else []
