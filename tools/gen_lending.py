@@ -192,16 +192,16 @@ use base.Logic.{SProp, ent, sep, emp, via, fst∗, id⊢}
 use base.Fml.{GName, Lft, Share, Fml, ftrue, fat, flft, fobs, fbor, fres, fshr-bor}
 use prog.Routine.{Routine, Env}
 use prog.Model.{Model}
-use prog.Wp.{Heap, Calls, Loops, WpFn, Tables, Closed}
+use prog.Wp.{Heap, Calls, Loops, WpFn, Closed}
 use ghost.Atoms.{Atoms}
 use contract.Lifetimes.{Lfts, Shares}
 use contract.Monad.{fact}
-use contract.Running.{Running, GhostRules, givenOf, tables, tablesOf}
+use contract.Running.{Running, GhostRules, givenOf, tables}
 use types.Kit.{Given, Item, ‵, raw, some, later, _⊛_, ⋆, _$_, _∵_, !, qed, by, move, drop, use1, use2, split, join, pick, rewrite, fsplit, fsplit3, fjoin, fjoin3, feqL, feqI, suffices, frame, await, done}
 use types.Run.{look, look-raw, init, store-raw, forget, stop, hop, fld, from, load, addr, unit-lit, of-opd, and-then, no-more, assigns, land, returns, enter, alloc1, alloc0, params1, pass1, pass0, free1, free0}
 use types.Part.{agg, whole, sub, look-in}
 use types.SemTy.{Body}
-use sound.WpLaws.{FmC, fmOf, WpFn-mono}
+use sound.WpLaws.{FmC}
 use denote.RattleType.{owns}
 use denote.Laws.{Is, shows}
 use denote.Memory.{mem, partAt}
@@ -217,14 +217,14 @@ use denote.Struct.Field.{u8-field, u16-field, u32-field, u64-field, usize-field}
 use denote.Struct.Declared.{Declared, shape, row}
 use denote.Struct.Laws as LL
 use denote.Triple.Entry.{Vals, onEntry}
-use denote.Triple.Spec.{Meets, tripleOf}
+use denote.Triple.Spec.{tripleOf}
 use denote.Triple.Statement.{Contract, Triple}
 use denote.Triple.Call.{calls-at}
 use denote.Triple.Clauses.{Ended, Clauses, Lasts, ensured, closing, lasts}
-use denote.Triple.Table.{entered, cited}
-use denote.Triple.Walked.{says, Stays, stay-ref, stay-none-ref, stay-none, stay-none-slice, gave-slice, walkOf, AllGo, goes-ref, goes-none-ref, goes-none, goes-none-slice, goes-gave-slice, Walks, ends-at, walked, walk-meets}
+use denote.Triple.Walked.{says, Stays, stay-ref, stay-none-ref, stay-none, stay-none-slice, gave-slice, walkOf, AllGo, goes-ref, goes-none-ref, goes-none, goes-none-slice, goes-gave-slice, Walks, ends-at, walked}
 use denote.Exit.{yes}
-use Rattle.lending.proofs.Kind.{Kind, rowOf, fieldOf, fieldLaws, Stepped, steppedType, steppedLaws}"""
+use Rattle.lending.proofs.Kind.{Kind, rowOf, fieldOf, fieldLaws, Stepped, steppedType, steppedLaws}
+use Rattle.lending.proofs.Runs.{runs}"""
 
 
 BOUND = "(((κ, κs), (q, qs), tt, x, at), tt)"
@@ -326,9 +326,9 @@ class Law:
         self.say("-- what is had of each parameter at exit")
         self.say("abbrev stayed : Stays (lent .signature .params) (lent .kept)")
         self.say(f"stayed = {nest([self.borrow.stays] + self.numbered(Param.stays, 1))}\n")
-        self.say("-- the contract that the proof cites")
-        self.say("abbrev pub Step : {M : Type 1} (𝓤 : URA M) (H : Heap 𝓤) (A : Atoms 𝓤) → Contract 𝓤")
-        self.say("Step 𝓤 H A = tripleOf 𝓤 H A (by-value .signature) (closing 𝓤 H A by-value (said 𝓤))\n")
+        self.say("-- the contract by value, which the proof cites")
+        self.say("abbrev ByValue : {M : Type 1} (𝓤 : URA M) (H : Heap 𝓤) (A : Atoms 𝓤) → Contract 𝓤")
+        self.say("ByValue 𝓤 H A = tripleOf 𝓤 H A (by-value .signature) (closing 𝓤 H A by-value (said 𝓤))\n")
 
     def ended(self, name, lifetimes, slots, result):
         self.say(f"abbrev {name} : Ended")
@@ -397,7 +397,7 @@ class Law:
         self.abbreviation("Post", "Val → SProp 𝓤", f"walkOf 𝓤 H A lent stayed (said-lent 𝓤) .post {BOUND}")
         self.say("  -- what the callee's triple binds outside: the borrows' own lifetimes and shares")
         self.abbreviation("passed", "Vals (by-value .signature) κs", "(mach h ∷ [], rest-vals)" if self.takes_state else "rest-vals")
-        self.abbreviation("to", "Step 𝓤 H A .Ghost", f"((κs, qs, tt, {self.taken}, passed), tt)")
+        self.abbreviation("to", "ByValue 𝓤 H A .Ghost", f"((κs, qs, tt, {self.taken}, passed), tt)")
         if self.shared:
             self.say("  abbrev shared : RefT (List ℕ) → Lft → Fml\n  shared y μ = ShrSlice (named 0) μ u8 .own y (s y ∷ [])\n")
         self.say("  -- what is kept of the parameters over the call")
@@ -416,13 +416,13 @@ class Law:
         wanted = f"owns ({listed([self.state.row] * self.takes_state + self.rows(0))}) {self.taken} passed"
         fact = f"Is {self.state.row} h (mach h ∷ []) → " if self.takes_state else ""
         self.say("  -- what is owned of all but the state gives what the callee asks, and what is kept")
-        self.say(f"  asked : {fact}ent 𝓤 (⋆ 𝓤 H A (tokens ∷ ‵ ({others}) ∷ [])) (sep 𝓤 (Step 𝓤 H A .pre to) (⋆ 𝓤 H A (kept ∷ [])))")
+        self.say(f"  asked : {fact}ent 𝓤 (⋆ 𝓤 H A (tokens ∷ ‵ ({others}) ∷ [])) (sep 𝓤 (ByValue 𝓤 H A .pre to) (⋆ 𝓤 H A (kept ∷ [])))")
         self.say(f"  {self.asks} =")
         self.say(f"      qed W (tokens ∷ ‵ ({others}) ∷ []) ∵")
         held = Held(["tokens", "rest"])
         self.say("      " + self.taken_apart(held) + self.put_together(held))
         self.say(f"      -- [what the callee's parameters own; {''.join(p.name + '; ' for p in reversed(self.shared))}the tokens]")
-        give = held.move("tokens", "rest") + f"use2 W (raw (Step 𝓤 H A .pre to)) (qed W (tokens ∷ ‵ ({wanted}) ∷ []) ∵ join ! $ frame ! $ done !) $ frame ! $ nothing ! $ "
+        give = held.move("tokens", "rest") + f"use2 W (raw (ByValue 𝓤 H A .pre to)) (qed W (tokens ∷ ‵ ({wanted}) ∷ []) ∵ join ! $ frame ! $ done !) $ frame ! $ nothing ! $ "
         held.swap(2, "kept")
         for p in reversed(self.shared):
             give += held.join("join", f"{p.var} kept", "kept")
@@ -480,7 +480,7 @@ class Law:
         self.last_at = {p.name: nth("zs", self.local[p.name] - 2 + self.takes_state) for p in self.muts}
         self.held = Held([x for i in reversed(range(self.next_local)) for x in (f"_{i}", f"frees _{i}")] + ["toks", "owns"])
         machine = listed(["vptr b o"] + [p.machine for p in self.params])
-        self.say(f"  module _ (callee : Name) (C : Calls 𝓤 H) (Λ : Loops 𝓤 H) (fm : FmC 𝓤 H (W .laws) C) (known : Triple 𝓤 (C callee) (Step 𝓤 H A)) where")
+        self.say(f"  module _ (callee : Name) (C : Calls 𝓤 H) (Λ : Loops 𝓤 H) (fm : FmC 𝓤 H (W .laws) C) (known : Triple 𝓤 (C callee) (ByValue 𝓤 H A)) where")
         self.say(f"    walk : ent 𝓤 (onEntry 𝓤 H A (lent .signature) (κ, κs) (q, qs) x at) (WpFn 𝓤 H C Λ (code callee) ({machine}) Post)")
         self.say("    walk =")
         first = len(self.lines)
@@ -546,12 +546,12 @@ class Law:
 
     def calls(self):
         self.rule("-- the call")
-        self.rule(self.held.move("tokens", "others") + f"use2 W (raw (Step 𝓤 H A .pre to) ⊛ kept) ({self.asks}) $ split ! $")
+        self.rule(self.held.move("tokens", "others") + f"use2 W (raw (ByValue 𝓤 H A .pre to) ⊛ kept) ({self.asks}) $ split ! $")
         self.held.swap(2, "pre", "kept")
         operands = "(no-more !)"
         for i in reversed(self.operands()):
             operands = f"(and-then ! ({self.loaded(i)}) {operands})"
-        self.rule(f"calls-at ! fm (Step 𝓤 H A) known to {operands} (λ w.")
+        self.rule(f"calls-at ! fm (ByValue 𝓤 H A) known to {operands} (λ w.")
         own = f"{self.result.row} .own r (w ∷ [])"
         self.rule(f"use1 W (later (some (λ (r : {self.result.denotes}). (tokens ⊛ ‵ ({own})) ⊛ raw (ensured 𝓤 H A by-value (said 𝓤) κs {self.taken} tt r)))) (id⊢ 𝓤 _) $ await ! tt $ pick ! (λ r.")
         self.held.swap(1, "returned")
@@ -618,7 +618,7 @@ class Law:
     def closing(self):
         n = len(self.lent) + 1
         self.say("module _ {M : Type 1} (𝓤 : URA M) (H : Heap 𝓤) (A : Atoms 𝓤) (W : Given 𝓤 H A) where")
-        self.say("  walks : (callee : Name) (C : Calls 𝓤 H) (Λ : Loops 𝓤 H) → FmC 𝓤 H (W .laws) C → Triple 𝓤 (C callee) (Step 𝓤 H A) → Walks 𝓤 H A lent stayed (WpFn 𝓤 H C Λ (code callee)) (said-lent 𝓤)")
+        self.say("  walks : (callee : Name) (C : Calls 𝓤 H) (Λ : Loops 𝓤 H) → FmC 𝓤 H (W .laws) C → Triple 𝓤 (C callee) (ByValue 𝓤 H A) → Walks 𝓤 H A lent stayed (WpFn 𝓤 H C Λ (code callee)) (said-lent 𝓤)")
         self.say("  walks callee C Λ fm known = walked 𝓤 H A lent stayed (said-lent 𝓤) (WpFn 𝓤 H C Λ (code callee))")
         self.say(f"      (λ κs. {nest(['ptr-vals'] + [p.spelled for p in self.params])})")
         self.say(f"      (λ κs. {nest([self.borrow.tells] + self.numbered(Param.tells, 1))})")
@@ -628,19 +628,12 @@ class Law:
         self.say(f"      (λ κs qs bounds a g are. via 𝓤 _ (fst∗ 𝓤 _ (emp 𝓤)) (walk 𝓤 H A W {' '.join(given)} callee C Λ fm known))\n")
         self.say("  goes : AllGo 𝓤 H A W {} (lent .signature .params) (lent .kept) stayed".format(n))
         self.say(f"  goes = {nest([self.borrow.goes.format(count=n)] + self.numbered(lambda p, at: p.goes(at, n), 1))}\n")
-        self.say("  meets : (callee : Name) (𝓣 : Tables 𝓤 H) → Triple 𝓤 (𝓣 .C callee) (Step 𝓤 H A)")
-        self.say("      → Meets 𝓤 H A (lent .signature) (WpFn 𝓤 H (𝓣 .C) (𝓣 .Λ) (code callee)) (closing 𝓤 H A lent (said-lent 𝓤))")
-        self.say("  meets callee 𝓣 known = walk-meets 𝓤 H A lent stayed W goes (said-lent 𝓤)")
-        self.say("      (WpFn 𝓤 H (𝓣 .C) (𝓣 .Λ) (code callee)) (WpFn-mono 𝓤 H (W .laws) 𝓣 (code callee)) (walks callee (𝓣 .C) (𝓣 .Λ) (fmOf 𝓤 H (W .laws) 𝓣) known)\n")
-        self.say("-- the law: `key` runs the code over `callee`, whose routine meets the contract by value")
+        self.say("-- the law: where `key` runs the code over `callee`, whose routine meets the contract by value, `key` meets that over a lent state")
         self.say("module _ {M : Type 1} (𝓤 : URA M) (H : Heap 𝓤) (𝓜 : Model 𝓤 H) (𝓖 : GhostRules 𝓤 H) (𝓡 : Running 𝓤 H 𝓜) (env : Env) (key callee : Name) (routine : Routine) where")
-        self.say("  pub met : Closed 𝓤 H (tables 𝓤 H 𝓜 𝓡 env .C) (tables 𝓤 H 𝓜 𝓡 env .Λ) key (code callee) → env callee ≡ routine → Triple 𝓤 (𝓡 .run routine) (Step 𝓤 H (𝓖 .A))")
+        self.say("  pub met : Closed 𝓤 H (tables 𝓤 H 𝓜 𝓡 env .C) (tables 𝓤 H 𝓜 𝓡 env .Λ) key (code callee) → env callee ≡ routine → Triple 𝓤 (𝓡 .run routine) (ByValue 𝓤 H (𝓖 .A))")
         self.say("      → Triple 𝓤 (tables 𝓤 H 𝓜 𝓡 env .C key) (tripleOf 𝓤 H (𝓖 .A) (lent .signature) (closing 𝓤 H (𝓖 .A) lent (said-lent 𝓤)))")
-        self.say("  unfolding tablesOf")
-        self.say("  met runs calls known = entered 𝓤 H (tripleOf 𝓤 H (𝓖 .A) (lent .signature) (closing 𝓤 H (𝓖 .A) lent (said-lent 𝓤)))")
-        self.say("      (tables 𝓤 H 𝓜 𝓡 env .C) (tables 𝓤 H 𝓜 𝓡 env .Λ) key (code callee) runs")
-        self.say("      (meets 𝓤 H (𝓖 .A) (givenOf 𝓤 H 𝓜 𝓖) callee (tablesOf 𝓤 H 𝓜 (tables 𝓤 H 𝓜 𝓡 env))")
-        self.say("      (cited 𝓤 H (Step 𝓤 H (𝓖 .A)) 𝓜 𝓡 env callee routine calls known))")
+        self.say("  met = runs 𝓤 H 𝓜 𝓖 𝓡 lent stayed (said-lent 𝓤) (code callee) (ByValue 𝓤 H (𝓖 .A)) env key callee routine")
+        self.say("      (goes 𝓤 H (𝓖 .A) (givenOf 𝓤 H 𝓜 𝓖)) (walks 𝓤 H (𝓖 .A) (givenOf 𝓤 H 𝓜 𝓖) callee)")
 
 
 class Steps(Law):

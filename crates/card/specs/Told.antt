@@ -1,5 +1,6 @@
--- Document 01, 'Sending a block', last paragraph: the card driver lends a state and finds it advanced after the call, or untouched after a
--- refusal. What each such call tells of its answer r, and of the lent state n and the buffers at exit.
+-- Document 01, 'Sending a block', last paragraph: the card driver lends the sender's state and finds it advanced after the call, or untouched
+-- after a refusal; a reader's and a walk's are lent in the same way (DECISIONS B1). What each such call tells of its answer r, and of the lent
+-- state n and the buffers at exit.
 use mathlib.Core.Path.{_≡_}
 use mathlib.Core.List.{List}
 use Prim.Native.Nat.{ℕ}

@@ -1,4 +1,5 @@
 pub mod Kind
+pub mod Runs
 pub mod Telling
 pub mod Saving
 pub mod Starting

@@ -13,15 +13,15 @@ use base.Logic.{SProp, ent, sep, emp, via, fst∗, id⊢}
 use base.Fml.{GName, Lft, Share, ftrue, fat, flft, fres, fshr-bor}
 use prog.Routine.{Routine, Env}
 use prog.Model.{Model}
-use prog.Wp.{Heap, Calls, Loops, WpFn, Tables, Closed}
+use prog.Wp.{Heap, Calls, Loops, WpFn, Closed}
 use ghost.Atoms.{Atoms}
 use contract.Lifetimes.{Lfts, Shares}
 use contract.Monad.{fact}
-use contract.Running.{Running, GhostRules, givenOf, tables, tablesOf}
+use contract.Running.{Running, GhostRules, givenOf, tables}
 use types.Kit.{Given, Item, ‵, raw, some, later, _⊛_, ⋆, _$_, _∵_, !, qed, by, move, drop, use1, use2, split, join, pick, rewrite, fsplit, fsplit3, fjoin, fjoin3, feqL, feqI, suffices, frame, await, done}
 use types.Run.{look, look-raw, init, forget, stop, hop, fld, from, load, addr, of-opd, and-then, no-more, assigns, land, returns, enter, alloc1, alloc0, params1, pass1, pass0, free1, free0}
 use types.Part.{agg, whole, sub, look-in}
-use sound.WpLaws.{FmC, fmOf, WpFn-mono}
+use sound.WpLaws.{FmC}
 use denote.RattleType.{owns}
 use denote.Laws.{Is, shows}
 use denote.Memory.{partAt}
@@ -36,14 +36,14 @@ use denote.Struct.Struct.{layout}
 use denote.Struct.Declared.{shape}
 use denote.Struct.Laws as LL
 use denote.Triple.Entry.{Vals, onEntry}
-use denote.Triple.Spec.{Meets, tripleOf}
+use denote.Triple.Spec.{tripleOf}
 use denote.Triple.Statement.{Contract, Triple}
 use denote.Triple.Call.{calls-at}
 use denote.Triple.Clauses.{Ended, Clauses, Lasts, ensured, closing, lasts}
-use denote.Triple.Table.{entered, cited}
-use denote.Triple.Walked.{says, Stays, stay-none-ref, gave-slice, walkOf, AllGo, goes-none-ref, goes-gave-slice, Walks, ends-at, walked, walk-meets}
+use denote.Triple.Walked.{says, Stays, stay-none-ref, gave-slice, walkOf, AllGo, goes-none-ref, goes-gave-slice, Walks, ends-at, walked}
 use denote.Exit.{yes}
 use Rattle.lending.proofs.Kind.{Kind, rowOf}
+use Rattle.lending.proofs.Runs.{runs}
 
 module _ (T : Kind) (Told : (T .type .D) → List ℕ → ℕ → List ℕ → Type 0) where
   -- the function by value, and the one over a lent state
@@ -64,9 +64,9 @@ module _ (T : Kind) (Told : (T .type .D) → List ℕ → ℕ → List ℕ → T
   abbrev stayed : Stays (lent .signature .params) (lent .kept)
   stayed = (stay-none-ref (0 ∷ []) tt (plain (λ _. (rowOf T))) yes, (gave-slice (1 ∷ []) tt (plain (λ _. u8)), tt))
 
-  -- the contract that the proof cites
-  abbrev pub Step : {M : Type 1} (𝓤 : URA M) (H : Heap 𝓤) (A : Atoms 𝓤) → Contract 𝓤
-  Step 𝓤 H A = tripleOf 𝓤 H A (by-value .signature) (closing 𝓤 H A by-value (said 𝓤))
+  -- the contract by value, which the proof cites
+  abbrev ByValue : {M : Type 1} (𝓤 : URA M) (H : Heap 𝓤) (A : Atoms 𝓤) → Contract 𝓤
+  ByValue 𝓤 H A = tripleOf 𝓤 H A (by-value .signature) (closing 𝓤 H A by-value (said 𝓤))
 
   -- the code, over what it calls
   abbrev code : Name → Fn
@@ -141,7 +141,7 @@ module _ (T : Kind) (Told : (T .type .D) → List ℕ → ℕ → List ℕ → T
     abbrev passed : Vals (by-value .signature) κs
     passed = (mach h ∷ [], rest-vals)
 
-    abbrev to : Step 𝓤 H A .Ghost
+    abbrev to : ByValue 𝓤 H A .Ghost
     to = ((κs, qs, tt, (h, rest), passed), tt)
 
     -- what is kept of the parameters over the call
@@ -149,12 +149,12 @@ module _ (T : Kind) (Told : (T .type .D) → List ℕ → ℕ → List ℕ → T
     kept = ‵ ftrue
 
     -- what is owned of all but the state gives what the callee asks, and what is kept
-    asked : Is (rowOf T) h (mach h ∷ []) → ent 𝓤 (⋆ 𝓤 H A (tokens ∷ ‵ (owns (MutSlice (named 1) κ-saved u8 ∷ []) rest rest-vals) ∷ [])) (sep 𝓤 (Step 𝓤 H A .pre to) (⋆ 𝓤 H A (kept ∷ [])))
+    asked : Is (rowOf T) h (mach h ∷ []) → ent 𝓤 (⋆ 𝓤 H A (tokens ∷ ‵ (owns (MutSlice (named 1) κ-saved u8 ∷ []) rest rest-vals) ∷ [])) (sep 𝓤 (ByValue 𝓤 H A .pre to) (⋆ 𝓤 H A (kept ∷ [])))
     asked g =
         qed W (tokens ∷ ‵ (owns (MutSlice (named 1) κ-saved u8 ∷ []) rest rest-vals) ∷ []) ∵
         move ! (1 ∷ []) $ fsplit ! $ fjoin ! $ owned ! (rowOf T) (Is (rowOf T)) (LL.makes (T .type) (T .plain) 𝓤 H A) h _ g $ fjoin ! $
         -- [what the callee's parameters own; the tokens]
-        move ! (1 ∷ 0 ∷ []) $ use2 W (raw (Step 𝓤 H A .pre to)) (qed W (tokens ∷ ‵ (owns ((rowOf T) ∷ MutSlice (named 0) κ-saved u8 ∷ []) (h, rest) passed) ∷ []) ∵ join ! $ frame ! $ done !) $ frame ! $ nothing ! $ done !
+        move ! (1 ∷ 0 ∷ []) $ use2 W (raw (ByValue 𝓤 H A .pre to)) (qed W (tokens ∷ ‵ (owns ((rowOf T) ∷ MutSlice (named 0) κ-saved u8 ∷ []) (h, rest) passed) ∷ []) ∵ join ! $ frame ! $ done !) $ frame ! $ nothing ! $ done !
 
     exits : (r : ℕ) (z-saved : List ℕ) → Said r z-saved → length z-saved ≡ length (the-saved .now) → Is u8 (r) (answer r ∷ [])
         → ent 𝓤 (⋆ 𝓤 H A (‵ (fres γ ((rowOf T) .coded .code (h))) ∷ ‵ (fshr-bor κ (λ s. partAt (rowOf T) s (h) b o)) ∷ ‵ (flft κ q) ∷ tokens ∷ ‵ (finally u8 (the-saved .name) z-saved) ∷ kept ∷ [])) (Post (answer r))
@@ -166,7 +166,7 @@ module _ (T : Kind) (Told : (T .type .D) → List ℕ → ℕ → List ℕ → T
         move ! (2 ∷ 3 ∷ []) $ join ! $ frame ! $ move ! (2 ∷ 3 ∷ []) $ fjoin ! $ move ! (1 ∷ 2 ∷ []) $ feqI ! (List Val) (vptr b o ∷ []) (vptr b o ∷ []) refl $ fjoin3 ! $ fjoin ! $ frame ! $
         owned ! u8 (Is u8) (uint-makes 𝓤 H A W w8) (r) _ is $ done !
 
-    module _ (callee : Name) (C : Calls 𝓤 H) (Λ : Loops 𝓤 H) (fm : FmC 𝓤 H (W .laws) C) (known : Triple 𝓤 (C callee) (Step 𝓤 H A)) where
+    module _ (callee : Name) (C : Calls 𝓤 H) (Λ : Loops 𝓤 H) (fm : FmC 𝓤 H (W .laws) C) (known : Triple 𝓤 (C callee) (ByValue 𝓤 H A)) where
       walk : ent 𝓤 (onEntry 𝓤 H A (lent .signature) (κ, κs) (q, qs) x at) (WpFn 𝓤 H C Λ (code callee) (vptr b o ∷ s the-saved ∷ []) Post)
       walk =
           qed W ((‵ (flft κ q) ⊛ tokens) ∷ ‵ (owns (ShrRef (named 0) κ (rowOf T) ∷ MutSlice (named 1) κ-saved u8 ∷ []) x at) ∷ []) ∵ enter ! C Λ (code callee) (vptr b o ∷ s the-saved ∷ []) _ $
@@ -182,8 +182,8 @@ module _ (T : Kind) (Told : (T .type .D) → List ℕ → ℕ → List ℕ → T
           assigns ! (addr ! (from ! (fld ! refl (hop ! (look-in ! 11 (sub ! 0 refl (whole !))) (stop !))))) (from ! (stop !)) (init ! 7 refl (tt, tt)) $
           assigns ! (agg ! (and-then ! (load ! (from ! (stop !)) (look ! 7 refl)) (and-then ! (load ! (from ! (fld ! refl (stop !))) (look-in ! 11 (sub ! 1 refl (whole !)))) (no-more !)))) (from ! (stop !)) (init ! 5 refl (tt, (tt, (record { fits = saved-is .0 .1 .0 }, tt)))) $
           -- the call
-          move ! (2 ∷ 4 ∷ []) $ use2 W (raw (Step 𝓤 H A .pre to) ⊛ kept) (asked g) $ split ! $
-          calls-at ! fm (Step 𝓤 H A) known to (and-then ! (load ! (from ! (stop !)) (look ! 9 refl)) (and-then ! (load ! (from ! (stop !)) (look ! 5 refl)) (no-more !))) (λ w.
+          move ! (2 ∷ 4 ∷ []) $ use2 W (raw (ByValue 𝓤 H A .pre to) ⊛ kept) (asked g) $ split ! $
+          calls-at ! fm (ByValue 𝓤 H A) known to (and-then ! (load ! (from ! (stop !)) (look ! 9 refl)) (and-then ! (load ! (from ! (stop !)) (look ! 5 refl)) (no-more !))) (λ w.
           use1 W (later (some (λ (r : ℕ). (tokens ⊛ ‵ (u8 .own r (w ∷ []))) ⊛ raw (ensured 𝓤 H A by-value (said 𝓤) κs (h, rest) tt r)))) (id⊢ 𝓤 _) $ await ! tt $ pick ! (λ r.
           -- what the callee ensures, at some last lists
           split ! $ move ! (1 ∷ []) $ use1 W (some (λ (zs : Lasts by-value κs (h, rest)). ‵ (lasts by-value κs (h, rest) zs) ⊛ raw (fact 𝓤 (Said r (zs .1 .0))))) (id⊢ 𝓤 _) $ pick ! (λ zs.
@@ -196,7 +196,7 @@ module _ (T : Kind) (Told : (T .type .D) → List ℕ → ℕ → List ℕ → T
           move ! (5 ∷ 4 ∷ 3 ∷ 0 ∷ 1 ∷ 2 ∷ []) $ by ! (exits r (zs .1 .0) e l-saved (subst (Is u8 r) (uint-tells w8 r _ is) is))))))))))))))))
 
   module _ {M : Type 1} (𝓤 : URA M) (H : Heap 𝓤) (A : Atoms 𝓤) (W : Given 𝓤 H A) where
-    walks : (callee : Name) (C : Calls 𝓤 H) (Λ : Loops 𝓤 H) → FmC 𝓤 H (W .laws) C → Triple 𝓤 (C callee) (Step 𝓤 H A) → Walks 𝓤 H A lent stayed (WpFn 𝓤 H C Λ (code callee)) (said-lent 𝓤)
+    walks : (callee : Name) (C : Calls 𝓤 H) (Λ : Loops 𝓤 H) → FmC 𝓤 H (W .laws) C → Triple 𝓤 (C callee) (ByValue 𝓤 H A) → Walks 𝓤 H A lent stayed (WpFn 𝓤 H C Λ (code callee)) (said-lent 𝓤)
     walks callee C Λ fm known = walked 𝓤 H A lent stayed (said-lent 𝓤) (WpFn 𝓤 H C Λ (code callee))
         (λ κs. (ptr-vals, (slice-vals, tt)))
         (λ κs. (shr-tells (named 0) (κs .0) (rowOf T), (mut-slice-tells (named 1) (κs .1 .0) u8, tt)))
@@ -205,17 +205,9 @@ module _ (T : Kind) (Told : (T .type .D) → List ℕ → ℕ → List ℕ → T
     goes : AllGo 𝓤 H A W 2 (lent .signature .params) (lent .kept) stayed
     goes = (goes-none-ref 𝓤 H A W 2 (0 ∷ []) tt (plain (λ _. (rowOf T))) yes, (goes-gave-slice 𝓤 H A W 2 1 tt (plain (λ _. u8)), tt))
 
-    meets : (callee : Name) (𝓣 : Tables 𝓤 H) → Triple 𝓤 (𝓣 .C callee) (Step 𝓤 H A)
-        → Meets 𝓤 H A (lent .signature) (WpFn 𝓤 H (𝓣 .C) (𝓣 .Λ) (code callee)) (closing 𝓤 H A lent (said-lent 𝓤))
-    meets callee 𝓣 known = walk-meets 𝓤 H A lent stayed W goes (said-lent 𝓤)
-        (WpFn 𝓤 H (𝓣 .C) (𝓣 .Λ) (code callee)) (WpFn-mono 𝓤 H (W .laws) 𝓣 (code callee)) (walks callee (𝓣 .C) (𝓣 .Λ) (fmOf 𝓤 H (W .laws) 𝓣) known)
-
-  -- the law: `key` runs the code over `callee`, whose routine meets the contract by value
+  -- the law: where `key` runs the code over `callee`, whose routine meets the contract by value, `key` meets that over a lent state
   module _ {M : Type 1} (𝓤 : URA M) (H : Heap 𝓤) (𝓜 : Model 𝓤 H) (𝓖 : GhostRules 𝓤 H) (𝓡 : Running 𝓤 H 𝓜) (env : Env) (key callee : Name) (routine : Routine) where
-    pub met : Closed 𝓤 H (tables 𝓤 H 𝓜 𝓡 env .C) (tables 𝓤 H 𝓜 𝓡 env .Λ) key (code callee) → env callee ≡ routine → Triple 𝓤 (𝓡 .run routine) (Step 𝓤 H (𝓖 .A))
+    pub met : Closed 𝓤 H (tables 𝓤 H 𝓜 𝓡 env .C) (tables 𝓤 H 𝓜 𝓡 env .Λ) key (code callee) → env callee ≡ routine → Triple 𝓤 (𝓡 .run routine) (ByValue 𝓤 H (𝓖 .A))
         → Triple 𝓤 (tables 𝓤 H 𝓜 𝓡 env .C key) (tripleOf 𝓤 H (𝓖 .A) (lent .signature) (closing 𝓤 H (𝓖 .A) lent (said-lent 𝓤)))
-    unfolding tablesOf
-    met runs calls known = entered 𝓤 H (tripleOf 𝓤 H (𝓖 .A) (lent .signature) (closing 𝓤 H (𝓖 .A) lent (said-lent 𝓤)))
-        (tables 𝓤 H 𝓜 𝓡 env .C) (tables 𝓤 H 𝓜 𝓡 env .Λ) key (code callee) runs
-        (meets 𝓤 H (𝓖 .A) (givenOf 𝓤 H 𝓜 𝓖) callee (tablesOf 𝓤 H 𝓜 (tables 𝓤 H 𝓜 𝓡 env))
-        (cited 𝓤 H (Step 𝓤 H (𝓖 .A)) 𝓜 𝓡 env callee routine calls known))
+    met = runs 𝓤 H 𝓜 𝓖 𝓡 lent stayed (said-lent 𝓤) (code callee) (ByValue 𝓤 H (𝓖 .A)) env key callee routine
+        (goes 𝓤 H (𝓖 .A) (givenOf 𝓤 H 𝓜 𝓖)) (walks 𝓤 H (𝓖 .A) (givenOf 𝓤 H 𝓜 𝓖) callee)
