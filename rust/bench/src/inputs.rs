@@ -3,9 +3,9 @@
 //! A case has several inputs, called in turn, each from a given state, so that no call depends on how often another
 //! was made. They are as many as a cache holds well, for a processor learns the branches of a few by heart.
 
-use model::bits;
 use model::forge::first_bits_before;
 use model::random::Random;
+use model::{bas, bits};
 
 use crate::contestants::{self, Contestant};
 use crate::forms::{self, Mode, Offer, Reader, Sender, LINE, LSD, RECORDING_MAX, VOICE};
@@ -111,6 +111,15 @@ pub const MODES: [Named; 15] = [
     named("data [14] bits 1-7, SC 17-80", 31, 14),
 ];
 
+/// The label of the reading case with one wrong bit of each word.
+pub const ONE_WRONG: &str = "word with one wrong bit";
+
+/// The same with two.
+pub const TWO_WRONG: &str = "word with two wrong bits";
+
+/// The same with so many that no code is near.
+pub const UNREADABLE: &str = "unreadable word";
+
 /// The mode of the cases that are about something else.
 const USUAL: Mode = Mode { audio: 20, lsd: 5 };
 
@@ -168,10 +177,28 @@ fn read_cases() -> Vec<Case> {
     let in_step = MODES.iter().map(|named| case(named.name, reads(named.mode)));
     let others = [
         case("waiting", usual_with(|input| input.state = Reader { block: 0, ..input.state })),
+        case(ONE_WRONG, harmed(|pattern| pattern.count_ones() == 1)),
+        case(TWO_WRONG, harmed(|pattern| pattern.count_ones() == 2)),
+        case(UNREADABLE, harmed(|pattern| bas::read(pattern.to_be_bytes()).is_none())),
         case("damaged: word, C and alignment", usual_with(damage)),
         case("lost", usual_with(lose)),
     ];
     in_step.chain(others).collect()
+}
+
+/// Blocks whose word came with wrong bits, in each by one of the patterns that are asked for: sixteen bits, in the order
+/// of the line. The sum of two words is a word, so a pattern can be read by itself exactly where a word with it can.
+fn harmed(asked: impl Fn(&u16) -> bool) -> Vec<ReadInput> {
+    let patterns: Vec<u16> = (0..=u16::MAX).filter(asked).collect();
+    let mut random = Random::new(patterns.len() as u64);
+    let mut inputs = reads(USUAL);
+    for input in &mut inputs {
+        let pattern = random.pick(&patterns);
+        for (place, octet) in (8..16).chain(88..96).enumerate() {
+            input.line[octet] ^= (pattern >> (15 - place) & 1) as u8;
+        }
+    }
+    inputs
 }
 
 /// One wrong alignment bit, two wrong bits of the word, one wrong C bit, and a message that is under way.
