@@ -1,11 +1,10 @@
 -- The saved form of a walk: its octets in order, and a walk back from them (docs/SAVED.md).
 use mathlib.Core.Bool.{cond}
-use mathlib.Core.List.{List, [], _∷_, _++_}
-use Prim.Native.Nat.{ℕ, zero, suc, _+_, _/_, _%_}
-use lib.Dec.{eqb}
-use lib.ListN.{length, getD, replicate}
+use mathlib.Core.List.{List, [], _∷_, _++_, map}
+use Prim.Native.Nat.{ℕ, zero, suc, _+_, _-_, _/_, _%_}
+use lib.ListN.{length, getD, take, replicate}
 use Rattle.bits.specs.Bits.{eightAt}
-use Rattle.saving.specs.Saved.{saveAnswer, savedOver, readerOctets, readerIn}
+use Rattle.saving.specs.Saved.{saveAnswer, savedOver, isForm, readerForms, readerOctets, readerIn}
 use Rattle.keeping.specs.declared.WalkState.{WalkState}
 use Rattle.keeping.specs.declared.WalkLoad.{WalkLoad}
 
@@ -14,7 +13,10 @@ unfoldable pub lowFirst : ℕ → ℕ → List ℕ
 lowFirst zero n = []
 lowFirst (suc k) n = n % 256 ∷ lowFirst k (n / 256)
 
--- a walk: its reader's 12 octets, the mark of a lost block, and the place in eight octets
+-- a walk: its reader's octets, the mark of a lost block, and the place in eight octets
+abbrev pub walkForms : List ℕ
+walkForms = map (λ (n : ℕ). n + 9) readerForms
+
 abbrev pub walkOctets : WalkState → List ℕ
 walkOctets w = readerOctets (w .reader) ++ (w .lost ∷ lowFirst 8 (w .place))
 
@@ -40,9 +42,18 @@ eightLowFirst xs at =
     ∷ [])
     0
 
+-- where the reader's octets of a form end: the nine after them are the walk's own
+abbrev pub readersEnd : List ℕ → ℕ
+readersEnd xs = length xs - 9
+
 abbrev pub walkIn : List ℕ → WalkState
 walkIn xs =
-    record { place = eightLowFirst xs 13; reader = readerIn xs; lost = getD xs 12 0; reserved = replicate 3 0 }
+    record {
+      place = eightLowFirst xs (readersEnd xs + 1);
+      reader = readerIn (take (readersEnd xs) xs);
+      lost = getD xs (readersEnd xs) 0;
+      reserved = replicate 3 0;
+    }
 
 abbrev pub walkLoaded : WalkState → List ℕ → WalkLoad
-walkLoaded w xs = cond (eqb (length xs) 21) (record { state = walkIn xs; answer = 1 }) (record { state = w; answer = 0 })
+walkLoaded w xs = cond (isForm walkForms xs) (record { state = walkIn xs; answer = 1 }) (record { state = w; answer = 0 })

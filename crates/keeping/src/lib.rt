@@ -1,9 +1,9 @@
 // A walk as a driver keeps it between its steps, and its saved form (docs/SAVED.md), which begins with that of its reader. Every octet of a form
 // is loaded as it is: a state out of range is refused by the calls that are given it.
 ghost use mathlib.Core.Path.{_≡_};
-ghost use Prim.Native.Nat.{_≤_};
+ghost use Prim.Native.Nat.{_+_, _≤_};
 ghost use lib.ListN.{length};
-ghost use Rattle.keeping.specs.SavedWalk.{walkSaved, walkKept, walkLoaded, eightLowFirst};
+ghost use Rattle.keeping.specs.SavedWalk.{walkSaved, walkKept, walkLoaded, walkIn, eightLowFirst};
 use reader::Reader;
 
 // A walk without its recording: where it stands, its reader, and a mark that is not 0 where the block before was lost. Reserved octets are kept
@@ -60,37 +60,46 @@ pub fn save_walk(state: WalkState, saved: &mut [u8]) -> u8
     saving::save(&octets, saved)
 }
 
-// The place of a saved walk: its last eight octets, the lowest first. A second caller of `bits::eight_at` would keep it out of the writer's loop,
-// which is slower then (docs/SPEED.md).
-fn place_from(saved: &[u8]) -> usize
-    requires { ⌜ 21 ≤ length (now saved) ⌝ }
-    ensures { λ r. ⌜ r ≡ eightLowFirst (now (saved .entry)) 13 ⌝ }
+// The place of a saved walk: the eight octets from `at` on, the lowest first. A second caller of `bits::eight_at` would keep it out of the writer's
+// loop, which is slower then (docs/SPEED.md).
+fn place_from(saved: &[u8], at: usize) -> usize
+    requires { ⌜ at + 8 ≤ length (now saved) ⌝ }
+    ensures { λ r. ⌜ r ≡ eightLowFirst (now (saved .entry)) at ⌝ }
 {
     let eight = [
-        saved[20],
-        saved[19],
-        saved[18],
-        saved[17],
-        saved[16],
-        saved[15],
-        saved[14],
-        saved[13],
+        saved[at + 7],
+        saved[at + 6],
+        saved[at + 5],
+        saved[at + 4],
+        saved[at + 3],
+        saved[at + 2],
+        saved[at + 1],
+        saved[at],
     ];
     bits::whole_eight_at(&eight, 0)
+}
+
+// The walk of a saved walk: the nine octets after its reader's are its own.
+fn walk_from(saved: &[u8]) -> WalkState
+    requires { ⌜ 9 ≤ length (now saved) ⌝ }
+    ensures { λ r. ⌜ r ≡ walkIn (now (saved .entry)) ⌝ }
+{
+    let end = saved.len() - 9;
+    let reader = saving::reader_from(&saved[..end]);
+    let place = place_from(saved, end + 1);
+    WalkState {
+        place: place,
+        reader: reader,
+        lost: saving::octet_of(saved, end),
+        reserved: [0; 3],
+    }
 }
 
 pub fn load_walk(state: WalkState, saved: &[u8]) -> WalkLoad
     ensures { λ r. ⌜ r ≡ walkLoaded state (now (saved .entry)) ⌝ }
 {
     if saved.len() == 21 {
-        let reader = saving::reader_from(saved);
-        let place = place_from(saved);
-        let loaded = WalkState {
-            place: place,
-            reader: reader,
-            lost: saved[12],
-            reserved: [0; 3],
-        };
+        let loaded = walk_from(saved);
         return WalkLoad {
             state: loaded,
             answer: 1,

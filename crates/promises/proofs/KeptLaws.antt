@@ -14,7 +14,7 @@ saves-sender =
     record {
       back = λ s was buffer whole fits. rw (eq-eqb _ _ fits) (refl, sender-back s was);
       room = λ s buffer other. rw (ne-eqb _ _ other) (refl, refl);
-      none = λ was xs other. rw (ne-eqb _ _ other) refl;
+      none = λ was xs other. rw (ne-eqb _ _ (other .0)) refl;
     }
 
 pub saves-reader : SavesReader
@@ -22,7 +22,7 @@ saves-reader =
     record {
       back = λ s was buffer whole fits. rw (eq-eqb _ _ fits) (refl, reader-back s was);
       room = λ s buffer other. rw (ne-eqb _ _ other) (refl, refl);
-      none = λ was xs other. rw (ne-eqb _ _ other) refl;
+      none = λ was xs other. rw (ne-eqb _ _ (other .0)) refl;
     }
 
 pub saves-walk : SavesWalk
@@ -31,7 +31,7 @@ saves-walk =
     record {
       back = λ w was buffer whole fits. rw (eq-eqb _ _ fits) (refl, walk-back w was (whole .0) (whole .1));
       room = λ w buffer other. rw (ne-eqb _ _ other) (refl, refl);
-      none = λ was xs other. rw (ne-eqb _ _ other) refl;
+      none = λ was xs other. rw (ne-eqb _ _ (other .0)) refl;
     }
 
 pub sender-form : SenderForm

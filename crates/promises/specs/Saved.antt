@@ -14,23 +14,29 @@ use Rattle.saving.specs.declared.SenderLoad.{SenderLoad}
 use Rattle.saving.specs.declared.ReaderLoad.{ReaderLoad}
 use Rattle.keeping.specs.declared.WalkLoad.{WalkLoad}
 
--- of states S: `octets` is the form's length, `answer` and `after` are what saving answers and leaves in the buffer, `load` is what loading leaves,
--- and `told s n` is the state s with the answer n. Said of the states that the library itself leaves, `whole`
-pub record Saves (S L : Type 0) (octets : ℕ) (answer : S → List ℕ → ℕ) (after : S → List ℕ → List ℕ) (load : S → List ℕ → L) (told : S → ℕ → L) (whole : S → Type 0) : Type 0 where
+-- a length is none of these
+abbrev pub NoneOf : List ℕ → ℕ → Type 0
+NoneOf [] n = Unit {0}
+NoneOf (m ∷ ms) n = (n ≡ m → ⊥) × NoneOf ms n
+
+-- of states S: `octets` is the length of the form that is written, `older` are the lengths of those before it, `answer` and `after` are what saving
+-- answers and leaves in the buffer, `load` is what loading leaves, and `told s n` is the state s with the answer n. Said of the states that the
+-- library itself leaves, `whole`
+pub record Saves (S L : Type 0) (octets : ℕ) (older : List ℕ) (answer : S → List ℕ → ℕ) (after : S → List ℕ → List ℕ) (load : S → List ℕ → L) (told : S → ℕ → L) (whole : S → Type 0) : Type 0 where
   pub back : (s was : S) (buffer : List ℕ) → whole s → length buffer ≡ octets → (answer s buffer ≡ 1) × (load was (after s buffer) ≡ told s 1)
   pub room : (s : S) (buffer : List ℕ) → (length buffer ≡ octets → ⊥) → (answer s buffer ≡ 0) × (after s buffer ≡ buffer)
-  pub none : (was : S) (xs : List ℕ) → (length xs ≡ octets → ⊥) → load was xs ≡ told was 0
+  pub none : (was : S) (xs : List ℕ) → NoneOf (octets ∷ older) (length xs) → load was xs ≡ told was 0
 
 abbrev pub SavesSender : Type 0
-SavesSender = Saves Sender SenderLoad 6 senderSaved senderKept senderLoaded (λ s n. record { state = s; answer = n }) (λ s. Unit {0})
+SavesSender = Saves Sender SenderLoad 6 [] senderSaved senderKept senderLoaded (λ s n. record { state = s; answer = n }) (λ s. Unit {0})
 
 abbrev pub SavesReader : Type 0
-SavesReader = Saves Reader ReaderLoad 12 readerSaved readerKept readerLoaded (λ s n. record { state = s; answer = n }) (λ s. Unit {0})
+SavesReader = Saves Reader ReaderLoad 12 [] readerSaved readerKept readerLoaded (λ s n. record { state = s; answer = n }) (λ s. Unit {0})
 
 -- a walk's place is a number of 64 bits, and its reserved octets are not saved
 abbrev pub SavesWalk : Type 0
 SavesWalk =
-    Saves WalkState WalkLoad 21 walkSaved walkKept walkLoaded (λ w n. record { state = w; answer = n })
+    Saves WalkState WalkLoad 21 [] walkSaved walkKept walkLoaded (λ w n. record { state = w; answer = n })
     (λ w. (w .place < 2 ^ 64) × (w .reserved ≡ replicate 3 0))
 
 -- ---- which octet is which. A saving and a loading call that both put the octets in another order would meet `Saves`, and not this

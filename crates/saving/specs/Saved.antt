@@ -1,5 +1,5 @@
 -- Saved forms of a sender and of a reader: their octets in order, and a state back from them. docs/SAVED.md has a row for each form.
-use mathlib.Core.Bool.{cond}
+use mathlib.Core.Bool.{Bool, false, cond, _||_}
 use mathlib.Core.List.{List, [], _∷_}
 use Prim.Native.Nat.{ℕ}
 use lib.Dec.{eqb}
@@ -16,7 +16,15 @@ saveAnswer octets buffer = cond (eqb (length buffer) (length octets)) 1 0
 abbrev pub savedOver : List ℕ → List ℕ → List ℕ
 savedOver octets buffer = cond (eqb (length buffer) (length octets)) octets buffer
 
+-- ---- octets are known as a form by their length: `forms` are the lengths that load
+abbrev pub isForm : List ℕ → List ℕ → Bool
+isForm [] xs = false
+isForm (n ∷ forms) xs = eqb (length xs) n || isForm forms xs
+
 -- ---- a sender: 6 octets
+abbrev pub senderForms : List ℕ
+senderForms = 6 ∷ []
+
 abbrev pub senderOctets : Sender → List ℕ
 senderOctets s = s .chosen ∷ s .mode .audio ∷ s .mode .lsd ∷ s .block .0 ∷ s .due ∷ s .remainder ∷ []
 
@@ -27,6 +35,7 @@ senderSaved s buffer = saveAnswer (senderOctets s) buffer
 abbrev pub senderKept : Sender → List ℕ → List ℕ
 senderKept s buffer = savedOver (senderOctets s) buffer
 
+-- a state from the octets of a form: those that a shorter form has not are 0, which says of each field what was so without it (DECISIONS B11)
 abbrev pub senderIn : List ℕ → Sender
 senderIn xs =
     record {
@@ -37,11 +46,14 @@ senderIn xs =
       remainder = getD xs 5 0;
     }
 
--- loading by the length of a form; what is no saved form leaves the state as it was
+-- what is no saved form leaves the state as it was
 abbrev pub senderLoaded : Sender → List ℕ → SenderLoad
-senderLoaded s xs = cond (eqb (length xs) 6) (record { state = senderIn xs; answer = 1 }) (record { state = s; answer = 0 })
+senderLoaded s xs = cond (isForm senderForms xs) (record { state = senderIn xs; answer = 1 }) (record { state = s; answer = 0 })
 
 -- ---- a reader: 12 octets
+abbrev pub readerForms : List ℕ
+readerForms = 12 ∷ []
+
 abbrev pub readerOctets : Reader → List ℕ
 readerOctets s =
     s .mode .audio
@@ -80,4 +92,4 @@ readerIn xs =
     }
 
 abbrev pub readerLoaded : Reader → List ℕ → ReaderLoad
-readerLoaded s xs = cond (eqb (length xs) 12) (record { state = readerIn xs; answer = 1 }) (record { state = s; answer = 0 })
+readerLoaded s xs = cond (isForm readerForms xs) (record { state = readerIn xs; answer = 1 }) (record { state = s; answer = 0 })

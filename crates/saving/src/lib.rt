@@ -1,9 +1,8 @@
 // Saved forms of a sender's and a reader's state: octets that a driver keeps and loads again, also with a later version of this library (docs/SAVED.md). A form is known
 // by its length. Every octet of a form is loaded as it is: a state out of range is refused by the calls that are given it.
 ghost use mathlib.Core.Path.{_≡_};
-ghost use Prim.Native.Nat.{_≤_};
-ghost use lib.ListN.{length};
-ghost use Rattle.saving.specs.Saved.{saveAnswer, savedOver, senderSaved, senderKept, senderLoaded, readerSaved, readerKept, readerLoaded, readerIn};
+ghost use lib.ListN.{getD};
+ghost use Rattle.saving.specs.Saved.{saveAnswer, savedOver, senderSaved, senderKept, senderIn, senderLoaded, readerSaved, readerKept, readerLoaded, readerIn};
 use modes::Mode;
 use numbers::BlockNumber;
 use reader::Reader;
@@ -32,6 +31,13 @@ pub fn save(octets: &[u8], saved: &mut [u8]) -> u8
     0
 }
 
+// An octet of a saved form; one that a shorter form has not is 0.
+pub fn octet_of(saved: &[u8], at: usize) -> u8
+    ensures { λ r. ⌜ r ≡ getD (now (saved .entry)) at 0 ⌝ }
+{
+    if at < saved.len() { saved[at] } else { 0 }
+}
+
 pub fn save_sender(state: Sender, saved: &mut [u8]) -> u8
     ensures { λ r. ⌜ (r ≡ senderSaved state (now (saved .entry))) × (now (saved .exit) ≡ senderKept state (now (saved .entry))) ⌝ }
 {
@@ -46,21 +52,28 @@ pub fn save_sender(state: Sender, saved: &mut [u8]) -> u8
     save(&octets, saved)
 }
 
+// The sender of a saved sender.
+fn sender_from(saved: &[u8]) -> Sender
+    ensures { λ r. ⌜ r ≡ senderIn (now (saved .entry)) ⌝ }
+{
+    let mode = Mode {
+        audio: octet_of(saved, 1),
+        lsd: octet_of(saved, 2),
+    };
+    Sender {
+        chosen: octet_of(saved, 0),
+        mode: mode,
+        block: BlockNumber(octet_of(saved, 3)),
+        due: octet_of(saved, 4),
+        remainder: octet_of(saved, 5),
+    }
+}
+
 pub fn load_sender(state: Sender, saved: &[u8]) -> SenderLoad
     ensures { λ r. ⌜ r ≡ senderLoaded state (now (saved .entry)) ⌝ }
 {
     if saved.len() == 6 {
-        let mode = Mode {
-            audio: saved[1],
-            lsd: saved[2],
-        };
-        let loaded = Sender {
-            chosen: saved[0],
-            mode: mode,
-            block: BlockNumber(saved[3]),
-            due: saved[4],
-            remainder: saved[5],
-        };
+        let loaded = sender_from(saved);
         return SenderLoad {
             state: loaded,
             answer: 1,
@@ -92,33 +105,32 @@ pub fn save_reader(state: Reader, saved: &mut [u8]) -> u8
     save(&octets, saved)
 }
 
-// The reader of a saved reader or of a saved walk, which begins with it.
+// The reader of a saved reader, or of what a saved walk begins with.
 pub fn reader_from(saved: &[u8]) -> Reader
-    requires { ⌜ 12 ≤ length (now saved) ⌝ }
     ensures { λ r. ⌜ r ≡ readerIn (now (saved .entry)) ⌝ }
 {
     let mode = Mode {
-        audio: saved[0],
-        lsd: saved[1],
+        audio: octet_of(saved, 0),
+        lsd: octet_of(saved, 1),
     };
     let kept = Mode {
-        audio: saved[2],
-        lsd: saved[3],
+        audio: octet_of(saved, 2),
+        lsd: octet_of(saved, 3),
     };
     let slot = Slot {
-        kind: saved[8],
-        words: saved[9],
+        kind: octet_of(saved, 8),
+        words: octet_of(saved, 9),
     };
     Reader {
         mode: mode,
         kept: kept,
-        wrong: saved[4],
-        block: BlockNumber(saved[5]),
-        firsts: saved[6],
-        misses: saved[7],
+        wrong: octet_of(saved, 4),
+        block: BlockNumber(octet_of(saved, 5)),
+        firsts: octet_of(saved, 6),
+        misses: octet_of(saved, 7),
         slot: slot,
-        before: saved[10],
-        remainder: saved[11],
+        before: octet_of(saved, 10),
+        remainder: octet_of(saved, 11),
     }
 }
 

@@ -5,11 +5,10 @@ use Rattle.keeping.proofs.load_walk.Statement.{statement}
 use Rattle.keeping.proofs.load_walk.Tie as tie
 
 returns : tie.Need-returns
-returns c =
-    rw (eq-eqb _ _ (c .before .before .before .if1 .taken), c .before .place-from .ensures, c .before .before .reader-from .ensures)
+returns c = rw (eq-eqb _ _ (c .before .if1 .taken), c .walk-from .ensures)
 
 returns-2 : tie.Need-returns-2
 returns-2 c = rw (ne-eqb _ _ (c .if1 .left))
 
 pub load-walk-spec : {M : Type 1} → statement M
-load-walk-spec = tie.close (tie.spec (λ c κs. search needs) (λ c κs. search needs) (λ c. search needs) returns returns-2)
+load-walk-spec = tie.close (tie.spec (λ c κs. search needs) returns returns-2)

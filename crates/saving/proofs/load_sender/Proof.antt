@@ -5,12 +5,10 @@ use Rattle.saving.proofs.load_sender.Statement.{statement}
 use Rattle.saving.proofs.load_sender.Tie as tie
 
 returns : tie.Need-returns
-returns c = rw (eq-eqb _ _ (c .before .before .before .before .before .before .if1 .taken))
+returns c = rw (eq-eqb _ _ (c .before .if1 .taken), c .sender-from .ensures)
 
 returns-2 : tie.Need-returns-2
 returns-2 c = rw (ne-eqb _ _ (c .if1 .left))
 
 pub load-sender-spec : {M : Type 1} → statement M
-load-sender-spec =
-    tie.close
-    (tie.spec (λ c. search needs) (λ c. search needs) (λ c. search needs) (λ c. search needs) (λ c. search needs) (λ c. search needs) returns returns-2)
+load-sender-spec = tie.close (tie.spec (λ c κs. search needs) returns returns-2)
