@@ -14,8 +14,11 @@ lowFirst zero n = []
 lowFirst (suc k) n = n % 256 ∷ lowFirst k (n / 256)
 
 -- a walk: its reader's octets, the mark of a lost block, and the place in eight octets
+abbrev pub nineMore : ℕ → ℕ
+nineMore n = n + 9
+
 abbrev pub walkForms : List ℕ
-walkForms = map (λ (n : ℕ). n + 9) readerForms
+walkForms = map nineMore readerForms
 
 abbrev pub walkOctets : WalkState → List ℕ
 walkOctets w = readerOctets (w .reader) ++ (w .lost ∷ lowFirst 8 (w .place))
@@ -56,4 +59,4 @@ walkIn xs =
     }
 
 abbrev pub walkLoaded : WalkState → List ℕ → WalkLoad
-walkLoaded w xs = cond (isForm walkForms xs) (record { state = walkIn xs; answer = 1 }) (record { state = w; answer = 0 })
+walkLoaded w xs = cond (isForm walkForms (length xs)) (record { state = walkIn xs; answer = 1 }) (record { state = w; answer = 0 })

@@ -3,7 +3,8 @@
 ghost use mathlib.Core.Path.{_≡_};
 ghost use Prim.Native.Nat.{_+_, _≤_};
 ghost use lib.ListN.{length};
-ghost use Rattle.keeping.specs.SavedWalk.{walkSaved, walkKept, walkLoaded, walkIn, eightLowFirst};
+ghost use Rattle.saving.specs.Saved.{isForm};
+ghost use Rattle.keeping.specs.SavedWalk.{walkForms, walkSaved, walkKept, walkLoaded, walkIn, eightLowFirst};
 use reader::Reader;
 
 // A walk without its recording: where it stands, its reader, and a mark that is not 0 where the block before was lost. Reserved octets are kept
@@ -79,6 +80,16 @@ fn place_from(saved: &[u8], at: usize) -> usize
     bits::whole_eight_at(&eight, 0)
 }
 
+// Whether so many octets are a saved walk: nine are its own, and all others a saved reader.
+fn is_walk_form(octets: usize) -> bool
+    ensures { λ r. ⌜ r ≡ isForm walkForms octets ⌝ }
+{
+    if octets < 9 {
+        return false;
+    }
+    saving::is_reader_form(octets - 9)
+}
+
 // The walk of a saved walk: the nine octets after its reader's are its own.
 fn walk_from(saved: &[u8]) -> WalkState
     requires { ⌜ 9 ≤ length (now saved) ⌝ }
@@ -98,7 +109,7 @@ fn walk_from(saved: &[u8]) -> WalkState
 pub fn load_walk(state: WalkState, saved: &[u8]) -> WalkLoad
     ensures { λ r. ⌜ r ≡ walkLoaded state (now (saved .entry)) ⌝ }
 {
-    if saved.len() == 21 {
+    if is_walk_form(saved.len()) {
         let loaded = walk_from(saved);
         return WalkLoad {
             state: loaded,

@@ -16,10 +16,10 @@ saveAnswer octets buffer = cond (eqb (length buffer) (length octets)) 1 0
 abbrev pub savedOver : List ℕ → List ℕ → List ℕ
 savedOver octets buffer = cond (eqb (length buffer) (length octets)) octets buffer
 
--- ---- octets are known as a form by their length: `forms` are the lengths that load
-abbrev pub isForm : List ℕ → List ℕ → Bool
-isForm [] xs = false
-isForm (n ∷ forms) xs = eqb (length xs) n || isForm forms xs
+-- ---- octets are a form by how many they are: `forms` are the lengths that load
+abbrev pub isForm : List ℕ → ℕ → Bool
+isForm [] n = false
+isForm (m ∷ forms) n = eqb n m || isForm forms n
 
 -- ---- a sender: 6 octets
 abbrev pub senderForms : List ℕ
@@ -48,7 +48,7 @@ senderIn xs =
 
 -- what is no saved form leaves the state as it was
 abbrev pub senderLoaded : Sender → List ℕ → SenderLoad
-senderLoaded s xs = cond (isForm senderForms xs) (record { state = senderIn xs; answer = 1 }) (record { state = s; answer = 0 })
+senderLoaded s xs = cond (isForm senderForms (length xs)) (record { state = senderIn xs; answer = 1 }) (record { state = s; answer = 0 })
 
 -- ---- a reader: 12 octets
 abbrev pub readerForms : List ℕ
@@ -92,4 +92,4 @@ readerIn xs =
     }
 
 abbrev pub readerLoaded : Reader → List ℕ → ReaderLoad
-readerLoaded s xs = cond (isForm readerForms xs) (record { state = readerIn xs; answer = 1 }) (record { state = s; answer = 0 })
+readerLoaded s xs = cond (isForm readerForms (length xs)) (record { state = readerIn xs; answer = 1 }) (record { state = s; answer = 0 })

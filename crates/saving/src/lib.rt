@@ -2,7 +2,7 @@
 // by its length. Every octet of a form is loaded as it is: a state out of range is refused by the calls that are given it.
 ghost use mathlib.Core.Path.{_≡_};
 ghost use lib.ListN.{getD};
-ghost use Rattle.saving.specs.Saved.{saveAnswer, savedOver, senderSaved, senderKept, senderIn, senderLoaded, readerSaved, readerKept, readerLoaded, readerIn};
+ghost use Rattle.saving.specs.Saved.{saveAnswer, savedOver, isForm, senderForms, senderSaved, senderKept, senderIn, senderLoaded, readerForms, readerSaved, readerKept, readerLoaded, readerIn};
 use modes::Mode;
 use numbers::BlockNumber;
 use reader::Reader;
@@ -29,6 +29,20 @@ pub fn save(octets: &[u8], saved: &mut [u8]) -> u8
         return 1;
     }
     0
+}
+
+// Whether so many octets are a saved sender.
+fn is_sender_form(octets: usize) -> bool
+    ensures { λ r. ⌜ r ≡ isForm senderForms octets ⌝ }
+{
+    octets == 6
+}
+
+// Whether so many octets are a saved reader.
+pub fn is_reader_form(octets: usize) -> bool
+    ensures { λ r. ⌜ r ≡ isForm readerForms octets ⌝ }
+{
+    octets == 12
 }
 
 // An octet of a saved form; one that a shorter form has not is 0.
@@ -72,7 +86,7 @@ fn sender_from(saved: &[u8]) -> Sender
 pub fn load_sender(state: Sender, saved: &[u8]) -> SenderLoad
     ensures { λ r. ⌜ r ≡ senderLoaded state (now (saved .entry)) ⌝ }
 {
-    if saved.len() == 6 {
+    if is_sender_form(saved.len()) {
         let loaded = sender_from(saved);
         return SenderLoad {
             state: loaded,
@@ -137,7 +151,7 @@ pub fn reader_from(saved: &[u8]) -> Reader
 pub fn load_reader(state: Reader, saved: &[u8]) -> ReaderLoad
     ensures { λ r. ⌜ r ≡ readerLoaded state (now (saved .entry)) ⌝ }
 {
-    if saved.len() == 12 {
+    if is_reader_form(saved.len()) {
         let loaded = reader_from(saved);
         return ReaderLoad {
             state: loaded,
