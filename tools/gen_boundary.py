@@ -373,7 +373,7 @@ def saved():
     yield from ("# Saved forms", "",
                 "`delampuk_save_sender`, `delampuk_save_reader` and `delampuk_save_walk` write a state as octets that can be kept beyond the run of a program, and",
                 "`delampuk_load_sender`, `delampuk_load_reader` and `delampuk_load_walk` read them. A form is known by its length. The last form of a state is the one",
-                "that is written; every form of this table loads, in this version and in each later one. A field that a form lacks gets the value that means what",
+                "that is written; every form of this table loads, in this version and in each later one. A field that a form lacks is 0, which means what",
                 "the library did then. Any other length is answered DELAMPUK_LOAD_NO_FORM, which is no refusal of document 01, and nothing changes.", "",
                 "Any octets of a form's length load. Whether the state is in range is asked by the calls that use it, which refuse it with 1.", "",
                 "A form that was written once is never changed: a state that gets a new field gets a new row. `c/check.c` loads stored octets of each.", "",

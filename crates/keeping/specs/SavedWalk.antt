@@ -13,7 +13,7 @@ unfoldable pub lowFirst : ℕ → ℕ → List ℕ
 lowFirst zero n = []
 lowFirst (suc k) n = n % 256 ∷ lowFirst k (n / 256)
 
--- a walk: its reader's octets, the mark of a lost block, and the place in eight octets
+-- ---- a walk: its reader's octets, and nine of its own, the mark of a lost block and the place in eight octets
 abbrev pub nineMore : ℕ → ℕ
 nineMore n = n + 9
 
@@ -45,7 +45,7 @@ eightLowFirst xs at =
     ∷ [])
     0
 
--- where the reader's octets of a form end: the nine after them are the walk's own
+-- where the reader's octets of a form end, and the walk's own begin
 abbrev pub readersEnd : List ℕ → ℕ
 readersEnd xs = length xs - 9
 

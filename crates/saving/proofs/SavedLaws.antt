@@ -1,6 +1,5 @@
 -- Saved forms: a form fills a buffer of its own length, and a state that was saved comes back when it is loaded.
 use mathlib.Core.Path.{_≡_, refl, ap, _∙_}
-use mathlib.Core.Bool.{Bool, true, false, _||_}
 use mathlib.Core.List.{List, [], _∷_}
 use Prim.Native.Nat.{ℕ}
 use native.Mathlib.Omega.{arith}
@@ -9,11 +8,6 @@ use Rattle.text.specs.Over.{over, overAt, Written}
 use Rattle.sender.specs.declared.Sender.{Sender}
 use Rattle.reader.specs.declared.Reader.{Reader}
 use Rattle.saving.specs.Saved.{senderOctets, senderLoaded, readerOctets, readerLoaded}
-
--- the last of a list of forms
-pub or-none : (b : Bool) → b ≡ (b || false)
-or-none true = refl
-or-none false = refl
 
 over-whole : (xs a : List ℕ) → length a ≡ length xs → over xs a ≡ xs
 unfolding over
