@@ -91,7 +91,7 @@ fn is_walk_form(octets: usize) -> bool
 }
 
 // The walk of a saved walk: the nine octets after its reader's are its own.
-fn walk_from(saved: &[u8]) -> WalkState
+fn walk_in(saved: &[u8]) -> WalkState
     requires { ⌜ 9 ≤ length (now saved) ⌝ }
     ensures { λ r. ⌜ r ≡ walkIn (now (saved .entry)) ⌝ }
 {
@@ -110,7 +110,7 @@ pub fn load_walk(state: WalkState, saved: &[u8]) -> WalkLoad
     ensures { λ r. ⌜ r ≡ walkLoaded state (now (saved .entry)) ⌝ }
 {
     if is_walk_form(saved.len()) {
-        let loaded = walk_from(saved);
+        let loaded = walk_in(saved);
         return WalkLoad {
             state: loaded,
             answer: 1,

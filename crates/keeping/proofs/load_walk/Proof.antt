@@ -6,11 +6,11 @@ use Rattle.keeping.proofs.SavedWalkLaws.{nine-there}
 use Rattle.keeping.proofs.load_walk.Statement.{statement}
 use Rattle.keeping.proofs.load_walk.Tie as tie
 
-asked : tie.Need-walk-from-requires
+asked : tie.Need-walk-in-requires
 asked c κs = nine-there readerForms _ (sym (c .before .is-walk-form .ensures) ∙ c .if1 .taken)
 
 returns : tie.Need-returns
-returns c = rw (sym (c .before .before .is-walk-form .ensures) ∙ c .before .if1 .taken, c .walk-from .ensures)
+returns c = rw (sym (c .before .before .is-walk-form .ensures) ∙ c .before .if1 .taken, c .walk-in .ensures)
 
 returns-2 : tie.Need-returns-2
 returns-2 c = rw (sym (c .before .is-walk-form .ensures) ∙ c .if1 .left)

@@ -1,10 +1,10 @@
--- `keeping::walk_from` meets its contract: the reader is in the octets before the last nine, and the mark and the place are in those.
+-- `keeping::walk_in` meets its contract: the reader is in the octets before the last nine, and the mark and the place are in those.
 use Prim.Native.Nat.{_-_}
 use native.Mathlib.Omega.{arith}
 use lib.ListN.{length, length-take}
 use borrow.Author.Needs.{needs}
-use Rattle.keeping.proofs.walk_from.Statement.{statement}
-use Rattle.keeping.proofs.walk_from.Tie as tie
+use Rattle.keeping.proofs.walk_in.Statement.{statement}
+use Rattle.keeping.proofs.walk_in.Tie as tie
 
 part-of : tie.Need-slice-aggregate-reader-from
 part-of c =
@@ -14,8 +14,8 @@ part-of c =
 returns : tie.Need-returns
 returns c = rw (c .before .place-from .ensures, c .before .before .reader-from .ensures, c .octet-of .ensures)
 
-pub walk-from-spec : {M : Type 1} → statement M
-walk-from-spec =
+pub walk-in-spec : {M : Type 1} → statement M
+walk-in-spec =
     tie.close
     (tie.spec
     (λ c. search needs)
