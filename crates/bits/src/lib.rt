@@ -1,4 +1,6 @@
 // Bits as a number, and octets as one number (document 01, 'What the unit carries').
+#![tactic(auto)]
+
 ghost use Rattle.std.specs.Prelude.{◌≡◌, cond, ◌+◌, ◌^◌, ◌≤◌, ◌<◌, leb, length, get_or};
 ghost use Rattle.bits.specs.Bits.{digit, number, number_at, eight_at};
 
