@@ -10,7 +10,7 @@ use words::Reading;
 
 // Kind 0 is sent, 1 held and 2 refused; the number is that of the refusal, or 0.
 #[repr(C)]
-#[derive(Drop)]
+#[derive(Clone, Copy)]
 pub struct SendAnswer {
     pub kind: u8,
     pub number: u8,
@@ -19,7 +19,7 @@ pub struct SendAnswer {
 // A block's answer. Standing 0 is waiting, 1 read and 2 lost; verdict 0 is none, 1 good and 2 bad; reading 0 is a mended code, 1 an item,
 // 2 a message word, 3 a forbidden item, 4 not followed, 5 unreadable and 6 not read; the code is 0 for the last two.
 #[repr(C)]
-#[derive(Drop)]
+#[derive(Clone, Copy)]
 pub struct BlockAnswer {
     pub standing: u8,
     pub verdict: u8,
@@ -29,7 +29,7 @@ pub struct BlockAnswer {
 
 // Kind 0 is a block and 1 refused; the number is that of the refusal, or 0.
 #[repr(C)]
-#[derive(Drop)]
+#[derive(Clone, Copy)]
 pub struct ReadAnswer {
     pub kind: u8,
     pub number: u8,
@@ -38,7 +38,7 @@ pub struct ReadAnswer {
 
 // The place found and number 0, or place 0 and the refusal's number. Reserved octets are 0, so that no octet of an answer is left unset.
 #[repr(C)]
-#[derive(Drop)]
+#[derive(Clone, Copy)]
 pub struct SearchAnswer {
     pub place: usize,
     pub number: u8,
@@ -47,7 +47,7 @@ pub struct SearchAnswer {
 
 // Kind 0 is a block, 1 a place, 2 the end and 3 refused; the value is the place found or the octets left, and 0 for the other two.
 #[repr(C)]
-#[derive(Drop)]
+#[derive(Clone, Copy)]
 pub struct StepAnswer {
     pub value: usize,
     pub kind: u8,

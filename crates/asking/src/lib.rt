@@ -16,7 +16,7 @@ use table::Places;
 
 // Which library this is: its version as a number, and how many octets each state has.
 #[repr(C)]
-#[derive(Drop)]
+#[derive(Clone, Copy)]
 pub struct Library {
     pub version: u32,
     pub sender: u16,
@@ -27,7 +27,7 @@ pub struct Library {
 
 // A sender: what is in force, the chosen audio, and which word is due, by the kinds of a slot.
 #[repr(C)]
-#[derive(Drop)]
+#[derive(Clone, Copy)]
 pub struct SenderTold {
     pub mode: Mode,
     pub chosen: u8,
@@ -36,7 +36,7 @@ pub struct SenderTold {
 
 // A reader: what is in force, the next block's number, 0 where it is unknown, which word is due, and the words of a message that are left.
 #[repr(C)]
-#[derive(Drop)]
+#[derive(Clone, Copy)]
 pub struct ReaderTold {
     pub mode: Mode,
     pub block: BlockNumber,
@@ -46,7 +46,7 @@ pub struct ReaderTold {
 
 // How many octets of a voice buffer count, and how many bits of a data buffer.
 #[repr(C)]
-#[derive(Drop)]
+#[derive(Clone, Copy)]
 pub struct Counts {
     pub voice: u16,
     pub lsd: u16,
@@ -55,7 +55,7 @@ pub struct Counts {
 // A code: its kind, whether a sender carries it as a plain word, and the places that it gives to a stream: octet bits, and SC octets. Kind 0
 // is none of the others, 1 neutral, 2 audio, 3 data, 4 an escape, and 5 opens a message.
 #[repr(C)]
-#[derive(Drop)]
+#[derive(Clone, Copy)]
 pub struct CodeTold {
     pub kind: u8,
     pub carried: u8,

@@ -1,4 +1,6 @@
 // BAS words: the word of a code, the order of its bits on the line, and the reading of a word that came (document 01, 'BAS words').
+#![tactic(auto)]
+
 ghost use Rattle.std.specs.Prelude.{◌≡◌};
 ghost use Rattle.bits.specs.Bits.{low_bits, number};
 ghost use Rattle.bas.specs.Words.{check_of, word_of, line_order};
@@ -6,7 +8,7 @@ ghost use Rattle.bas.specs.Reading.{reading_of};
 ghost use Rattle.bas.specs.Flips.{flips_at};
 
 // What a word that came says.
-#[derive(Drop)]
+#[derive(Clone, Copy)]
 pub enum Word {
     Code(u8),
     Unreadable,

@@ -1,5 +1,7 @@
 // The buffers that calls are lent: how many octets each has, and the rows of a refusal that look at them (document 01, 'Codes and bit places'
 // and 'Refusal numbers').
+#![tactic(auto)]
+
 ghost use Rattle.std.specs.Prelude.{◌≡◌};
 ghost use Rattle.refusals.specs.Rows.{in_turn, judged};
 ghost use Rattle.buffers.specs.Buffers.{each};

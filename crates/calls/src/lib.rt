@@ -14,19 +14,19 @@ use keeping::WalkState;
 use reader::Reader;
 use sender::Sender;
 
-#[derive(Drop)]
+#[derive(Clone, Copy)]
 pub struct SendStepped {
     pub state: Sender,
     pub answer: SendAnswer,
 }
 
-#[derive(Drop)]
+#[derive(Clone, Copy)]
 pub struct ReadStepped {
     pub state: Reader,
     pub answer: ReadAnswer,
 }
 
-#[derive(Drop)]
+#[derive(Clone, Copy)]
 pub struct WalkStepped {
     pub state: WalkState,
     pub answer: StepAnswer,

@@ -9,7 +9,7 @@ ghost use Rattle.codes.specs.Commands.{command_of, offered, followed};
 use modes::{Mode, Owner};
 
 // What a code makes of the words after it.
-#[derive(Drop)]
+#[derive(Clone, Copy)]
 pub enum Opening {
     Nothing,
     Item,
@@ -17,7 +17,7 @@ pub enum Opening {
 }
 
 // What a code is as a command.
-#[derive(Drop)]
+#[derive(Clone, Copy)]
 pub enum Command {
     Neutral,
     SetAudio(u8),

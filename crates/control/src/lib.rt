@@ -14,7 +14,7 @@ use sender::Sender;
 use slots::Due;
 
 // What a call says beside its buffers.
-#[derive(Drop)]
+#[derive(Clone, Copy)]
 pub struct Call {
     pub mute: bool,
     pub code: u8,
@@ -24,7 +24,7 @@ pub struct Call {
 }
 
 // By which rule a word goes out.
-#[derive(Drop)]
+#[derive(Clone, Copy)]
 pub enum Rule {
     AsItem,
     MuteOff,
@@ -32,7 +32,7 @@ pub enum Rule {
     Offered,
 }
 
-#[derive(Drop)]
+#[derive(Clone, Copy)]
 pub enum Answer {
     Sent,
     Held,
@@ -40,7 +40,7 @@ pub enum Answer {
 }
 
 // What a rule sends and answers, and what it leaves of the state.
-#[derive(Drop)]
+#[derive(Clone, Copy)]
 pub struct Plan {
     pub word: u8,
     pub answer: Answer,
@@ -51,7 +51,7 @@ pub struct Plan {
 
 // What is decided of a call. Where it is refused, no word goes and the next state is the one given; where it is accepted, the next state still
 // has the remainder of the block before.
-#[derive(Drop)]
+#[derive(Clone, Copy)]
 pub struct Decision {
     pub ruling: Ruling,
     pub word: u8,

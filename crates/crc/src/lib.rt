@@ -1,4 +1,6 @@
 // The CRC-4 of a block (document 01, 'CRC-4').
+#![tactic(auto)]
+
 ghost use Rattle.std.specs.Prelude.{◌≡◌, [], ◌∷◌, ◌+◌, ◌≤◌, length};
 ghost use Rattle.std.specs.Int.Bits.{bit_xor, bit_and};
 ghost use Rattle.bits.specs.Bits.{low_bits, number, eight_at};

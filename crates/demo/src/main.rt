@@ -29,14 +29,14 @@ const MICROPHONE: u8 = 0;
 const AUDIO_OFF: u8 = 0x1F;
 
 // How far the lesson is: the state that the next call finds, and how many blocks are recorded.
-#[derive(Drop)]
+#[derive(Clone, Copy)]
 struct Lesson {
     state: Sender,
     blocks: usize,
 }
 
 // The far end, and what it got so far: bits of the microphone, and whether and in which block "audio off" came as a command.
-#[derive(Drop)]
+#[derive(Clone, Copy)]
 struct Heard {
     reader: Reader,
     bits: u64,

@@ -1,4 +1,6 @@
 // Numbers as text, in hex and in decimal, written into a lent buffer as `text` writes.
+#![tactic(auto)]
+
 ghost use Rattle.std.specs.Prelude.{◌≡◌, ◌<◌, ◌^◌};
 ghost use Rattle.text.specs.Over.{Written};
 ghost use Rattle.digits.specs.Digits.{digit_of, hex_of, digit_at, digitsFrom, decimal_of};

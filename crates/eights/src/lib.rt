@@ -1,4 +1,6 @@
 // Eight octets as one number of 64 bits: read from a buffer, and its fields spread over the octets.
+#![tactic(auto)]
+
 ghost use Rattle.std.specs.Prelude.{◌≡◌, ℕ, ◌+◌, ◌-◌, ◌*◌, ◌^◌, ◌<◌, ◌≤◌, length, get_or, drop};
 ghost use Rattle.bits.specs.Bits.{nexts, bits_of, number};
 ghost use Rattle.eights.specs.Eight.{parted_by, eights, ended_by, field_of, spread_by};

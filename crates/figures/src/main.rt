@@ -66,7 +66,7 @@ fn crc(at: usize, octet: u8) {
 }
 
 // How many words were read as the code that was sent, as another one, and as unreadable.
-#[derive(Drop)]
+#[derive(Clone, Copy)]
 struct Tally {
     sent: u64,
     other: u64,

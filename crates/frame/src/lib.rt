@@ -14,7 +14,7 @@ use numbers::BlockNumber;
 use places::Layout;
 
 // What stands in the service channel of a block, beside its alignment: A, E and T, the block's number, the remainder of the block before and the BAS code.
-#[derive(Drop)]
+#[derive(Clone, Copy)]
 pub struct Header {
     pub a: bool,
     pub e: bool,
@@ -33,7 +33,7 @@ fn service_word(row: [bool; 8], half: u8) -> u16
 }
 
 // The service bits of a block's two frames.
-#[derive(Drop)]
+#[derive(Clone, Copy)]
 struct Service {
     even: u16,
     odd: u16,

@@ -9,7 +9,7 @@ use reader::Reader;
 // A walk without its recording: where it stands, its reader, and a mark that is not 0 where the block before was lost. Reserved octets are kept
 // as they are.
 #[repr(C)]
-#[derive(Drop)]
+#[derive(Clone, Copy)]
 pub struct WalkState {
     pub place: usize,
     pub reader: Reader,
@@ -18,7 +18,7 @@ pub struct WalkState {
 }
 
 // The state that is left, and 1 where the octets were a saved walk, 0 where they were none and the state is the one given.
-#[derive(Drop)]
+#[derive(Clone, Copy)]
 pub struct WalkLoad {
     pub state: WalkState,
     pub answer: u8,

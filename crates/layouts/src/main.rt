@@ -81,7 +81,7 @@ fn position(mode: Mode, at: usize, place: usize) -> u64 {
 }
 
 // How a figure numbers the bits of a stream: from 1, from 0, or as code word and bit of G.728.
-#[derive(Drop)]
+#[derive(Clone, Copy)]
 enum Label {
     FromOne,
     FromZero,
@@ -238,7 +238,7 @@ fn comes_back(mode: Mode, mute: bool) -> bool {
     all_back(&voice, &voice_back, v * 2, mute) & all_back(&lsd, &lsd_back, d * 2, false)
 }
 
-#[derive(Drop)]
+#[derive(Clone, Copy)]
 struct Tally {
     right: u64,
     wrong: u64,

@@ -8,14 +8,14 @@ use table::Places;
 
 // What is in force: an audio value of (000) and a data value of (011).
 #[repr(C)]
-#[derive(Drop)]
+#[derive(Clone, Copy)]
 pub struct Mode {
     pub audio: u8,
     pub lsd: u8,
 }
 
 // Whose a place is. Lsd is the data stream.
-#[derive(Drop)]
+#[derive(Clone, Copy)]
 pub enum Owner {
     Service,
     Voice,

@@ -1,17 +1,19 @@
 // Frames, blocks and octets by number (document 01, 'What the unit carries').
+#![tactic(auto)]
+
 ghost use Rattle.std.specs.Prelude.{◌≡◌};
 ghost use Rattle.numbers.specs.Numbers.{even_frame, odd_frame, following};
 
 // The three numbers that are counted apart: a frame of a multiframe, 0 to 15; a block of it, 1 to 8; an octet of a frame, 1 to 80.
-#[derive(Drop)]
+#[derive(Clone, Copy)]
 pub struct FrameNumber(pub u8);
 
 // Laid out as in C, as all that a state holds: states cross to a card driver as they stand.
 #[repr(C)]
-#[derive(Drop)]
+#[derive(Clone, Copy)]
 pub struct BlockNumber(pub u8);
 
-#[derive(Drop)]
+#[derive(Clone, Copy)]
 pub struct OctetNumber(pub u8);
 
 // The even frame of a block, and the odd one.

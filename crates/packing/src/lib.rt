@@ -1,11 +1,13 @@
 // Runs of bits taken out of a block's octets, eight octets at a time, and packed from the front of a buffer.
+#![tactic(auto)]
+
 ghost use Rattle.std.specs.Prelude.{◌≡◌, Bool, List, ◌++◌, ℕ, ◌+◌, ◌-◌, ◌*◌, ◌%◌, ◌^◌, ◌<◌, ◌≤◌, length, take, replicate};
 ghost use Rattle.bits.specs.Bits.{octets, number};
 ghost use Rattle.packing.specs.Filled.{runs, Filled};
 ghost use Rattle.packing.specs.Lanes.{picked, units};
 
 // The bits of an octet that a stream holds, which stand together: `bits` of them after the first `start`.
-#[derive(Drop)]
+#[derive(Clone, Copy)]
 pub struct Run {
     pub start: usize,
     pub bits: usize,

@@ -5,7 +5,7 @@ ghost use Rattle.places.specs.Layout.{layout_of, in_eights};
 use modes::{Mode, Owner};
 
 // The places of a mode: voice owns octet bits 1 to `width`, data the last `columns` of bits 1 to 7 and SC octets `first` to `last`.
-#[derive(Drop)]
+#[derive(Clone, Copy)]
 pub struct Layout {
     pub width: u8,
     pub columns: u8,

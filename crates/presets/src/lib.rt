@@ -5,21 +5,21 @@ ghost use Rattle.presets.specs.Presets.{is_preset, preset_read, preset_written};
 use refusals::{Refusal, Ruling};
 use sender::Sender;
 
-#[derive(Drop)]
+#[derive(Clone, Copy)]
 pub enum PresetAnswer {
     Read,
     Unread(Refusal),
 }
 
 // A state to start from, and the data code to offer.
-#[derive(Drop)]
+#[derive(Clone, Copy)]
 pub struct PresetRead {
     pub answer: PresetAnswer,
     pub state: Sender,
     pub offer: u8,
 }
 
-#[derive(Drop)]
+#[derive(Clone, Copy)]
 pub enum PresetWritten {
     Bits(u16),
     Unwritten(Refusal),

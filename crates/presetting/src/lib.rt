@@ -7,7 +7,7 @@ use sender::Sender;
 
 // The data code to offer and number 0, or "data off" and the refusal's number.
 #[repr(C)]
-#[derive(Drop)]
+#[derive(Clone, Copy)]
 pub struct PresetAnswer {
     pub offer: u8,
     pub number: u8,
@@ -15,14 +15,14 @@ pub struct PresetAnswer {
 
 // A preset and number 0, or 0 and a refusal's number.
 #[repr(C)]
-#[derive(Drop)]
+#[derive(Clone, Copy)]
 pub struct PresetBits {
     pub bits: u16,
     pub number: u8,
     pub reserved: u8,
 }
 
-#[derive(Drop)]
+#[derive(Clone, Copy)]
 pub struct PresetStepped {
     pub state: Sender,
     pub answer: PresetAnswer,

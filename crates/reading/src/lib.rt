@@ -11,14 +11,14 @@ use reader::Reader;
 use refusals::{Refusal, Ruling};
 use track::{Report, Standing};
 
-#[derive(Drop)]
+#[derive(Clone, Copy)]
 pub enum Answer {
     Block(Report),
     Refused(Refusal),
 }
 
 // A struct and not an enum, since the state is to hold more than an enum may.
-#[derive(Drop)]
+#[derive(Clone, Copy)]
 pub struct Outcome {
     pub state: Reader,
     pub answer: Answer,

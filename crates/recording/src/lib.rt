@@ -12,7 +12,7 @@ use search::Found;
 use track::Report;
 
 // A block as the reader answers it, the place where alignment was found again, or the end and the octets left.
-#[derive(Drop)]
+#[derive(Clone, Copy)]
 pub enum Answer {
     Block(Report),
     Place(usize),
@@ -21,7 +21,7 @@ pub enum Answer {
 }
 
 // The answer, the reader's state, and where the walk stands: its place, and whether the block before it was lost.
-#[derive(Drop)]
+#[derive(Clone, Copy)]
 pub struct Stepped {
     pub answer: Answer,
     pub reader: Reader,

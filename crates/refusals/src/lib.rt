@@ -1,10 +1,12 @@
 // Every refusal that a call gives, its number, and the first of a call's rows that is given (document 01, 'Refusal numbers').
+#![tactic(auto)]
+
 ghost use Rattle.std.specs.Prelude.{◌≡◌};
 ghost use Rattle.refusals.specs.Numbers.{number_of};
 ghost use Rattle.refusals.specs.Rows.{row, judged};
 
 // One for each number, in the order of the numbers (DECISIONS F43, F44).
-#[derive(Drop)]
+#[derive(Clone, Copy)]
 pub enum Refusal {
     BadState,
     LineLength,
@@ -20,7 +22,7 @@ pub enum Refusal {
 }
 
 // What the rows of a call decide.
-#[derive(Drop)]
+#[derive(Clone, Copy)]
 pub enum Ruling {
     Refuse(Refusal),
     Accept,

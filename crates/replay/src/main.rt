@@ -22,14 +22,14 @@ const FILLED: u8 = 0xAA;
 const MOST: u64 = 0xFFFF_FFFF;
 
 // How the collection goes on: with a recording, and how many blocks it has, or not at all.
-#[derive(Drop)]
+#[derive(Clone, Copy)]
 enum Ahead {
     Blocks(u8),
     End,
 }
 
 // How far the collection is read: more may follow, or all of it was whole, or it ends within a recording.
-#[derive(Drop)]
+#[derive(Clone, Copy)]
 enum Stage {
     More,
     Whole,
@@ -37,7 +37,7 @@ enum Stage {
 }
 
 // A reader after a block, and whether there was a whole block to read.
-#[derive(Drop)]
+#[derive(Clone, Copy)]
 struct Turn {
     whole: bool,
     state: Reader,

@@ -10,13 +10,13 @@ use sender::Sender;
 use slots::Slot;
 
 // The state that is left, and 1 where the octets were a saved form, 0 where they were none and the state is the one given.
-#[derive(Drop)]
+#[derive(Clone, Copy)]
 pub struct SenderLoad {
     pub state: Sender,
     pub answer: u8,
 }
 
-#[derive(Drop)]
+#[derive(Clone, Copy)]
 pub struct ReaderLoad {
     pub state: Reader,
     pub answer: u8,

@@ -7,7 +7,7 @@ ghost use Rattle.search.specs.Groups.{plane, EachBit, Folded, none_of, first_fro
 use refusals::Refusal;
 
 // A place is an octet of the whole recording, counted from 0.
-#[derive(Drop)]
+#[derive(Clone, Copy)]
 pub enum Found {
     Place(usize),
     Refused(Refusal),

@@ -11,7 +11,7 @@ use refusals::Ruling;
 use sender::Sender;
 
 // A struct and not an enum, since the state is to hold more than an enum may.
-#[derive(Drop)]
+#[derive(Clone, Copy)]
 pub struct Outcome {
     pub state: Sender,
     pub answer: Answer,

@@ -1,4 +1,6 @@
 // The service channel: the sixteen rows that are sent, and what the SC bits of a block say (document 01, 'Service bits 1 to 8 of each frame').
+#![tactic(auto)]
+
 ghost use Rattle.std.specs.Prelude.{◌≡◌, ◌≤◌, get_or};
 ghost use Rattle.bits.specs.Bits.{sc_bit, octet_bits, digit, number};
 ghost use Rattle.bas.specs.Reading.{weight};

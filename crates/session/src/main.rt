@@ -31,7 +31,7 @@ const SCRIPT: [u16; 52] = [
     0x1F00,
 ];
 
-#[derive(Drop)]
+#[derive(Clone, Copy)]
 enum Stream {
     Voice,
     Data,

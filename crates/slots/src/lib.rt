@@ -6,7 +6,7 @@ use bas::Word;
 use codes::Opening;
 
 // What the next word is due to be. No words of a message left is the same as a plain word.
-#[derive(Drop)]
+#[derive(Clone, Copy)]
 pub enum Due {
     Plain,
     AnItem,
@@ -16,7 +16,7 @@ pub enum Due {
 
 // What is due, as a saved state holds it: kind 0 is a plain word, 1 an item, 2 N, and every other number a message with `words` left.
 #[repr(C)]
-#[derive(Drop)]
+#[derive(Clone, Copy)]
 pub struct Slot {
     pub kind: u8,
     pub words: u8,

@@ -7,7 +7,7 @@ use modes::{Mode, Owner};
 use sender::Sender;
 
 // How far a word is read as a call.
-#[derive(Drop)]
+#[derive(Clone, Copy)]
 enum Stage {
     Start,
     HalfCode,
@@ -19,7 +19,7 @@ enum Stage {
 }
 
 // A word as far as it is read: the call that it asks for, and how often.
-#[derive(Drop)]
+#[derive(Clone, Copy)]
 struct Word {
     stage: Stage,
     call: Call,
@@ -27,7 +27,7 @@ struct Word {
 }
 
 // Whether the sending goes on, or has ended since voice cannot be read or a block cannot be written.
-#[derive(Drop)]
+#[derive(Clone, Copy)]
 enum Course {
     Open,
     Unread,
@@ -35,7 +35,7 @@ enum Course {
 }
 
 // How far the sending is: the state that the next call finds, its number, and its course.
-#[derive(Drop)]
+#[derive(Clone, Copy)]
 struct Session {
     state: Sender,
     number: usize,
@@ -43,7 +43,7 @@ struct Session {
 }
 
 // The voice of a block, and whether it could be read.
-#[derive(Drop)]
+#[derive(Clone, Copy)]
 struct Voice {
     octets: [u8; buffers::VOICE],
     failed: bool,

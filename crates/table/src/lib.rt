@@ -1,11 +1,13 @@
 // The bit places of each audio and data value (document 01, 'Codes and bit places').
+#![tactic(auto)]
+
 ghost use Rattle.std.specs.Prelude.{◌≡◌};
 ghost use Rattle.table.specs.Table.{audio_places, lsd_places};
 
 use numbers::OctetNumber;
 
 // Octet bits `from` to `to` of every octet, and the SC bit of octets `first` to `last`. A range that ends before it starts is empty.
-#[derive(Drop)]
+#[derive(Clone, Copy)]
 pub struct Places {
     pub listed: bool,
     pub from: u8,

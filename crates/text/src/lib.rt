@@ -1,6 +1,8 @@
 // Text, written piece after piece into a lent buffer from a place on. As with snprintf, what does not fit is left out, and the
 // answer is the place after the piece, where the next one goes. Each place past the buffer's end is answered as one past it, so
 // none is too large for a usize, and an answer above the buffer's length says that the text did not fit (DECISIONS F22).
+#![tactic(auto)]
+
 ghost use Rattle.std.specs.Prelude.{◌≡◌, [], ◌∷◌, ◌+◌, ◌≤◌, ◌<◌, ◌^◌, min, length};
 ghost use Rattle.text.specs.Over.{Written};
 

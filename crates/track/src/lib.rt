@@ -13,7 +13,7 @@ use slots::{Due, Slot};
 use words::Reading;
 
 // What a block shows in its service channel, and its remainder.
-#[derive(Drop)]
+#[derive(Clone, Copy)]
 pub struct Signs {
     pub wrong: u8,
     pub c: u8,
@@ -22,14 +22,14 @@ pub struct Signs {
     pub remainder: u8,
 }
 
-#[derive(Drop)]
+#[derive(Clone, Copy)]
 pub enum Standing {
     Waiting,
     Read,
     Lost,
 }
 
-#[derive(Drop)]
+#[derive(Clone, Copy)]
 pub enum Verdict {
     None,
     Good,
@@ -37,21 +37,21 @@ pub enum Verdict {
 }
 
 // A block's answer, with the reading of its BAS word inside it.
-#[derive(Drop)]
+#[derive(Clone, Copy)]
 pub struct Report {
     pub standing: Standing,
     pub verdict: Verdict,
     pub reading: Reading,
 }
 
-#[derive(Drop)]
+#[derive(Clone, Copy)]
 pub struct Stepped {
     pub state: Reader,
     pub report: Report,
 }
 
 // Where the multiframe stands after a block: the next block's number, the run of wrong patterns, and what is due.
-#[derive(Drop)]
+#[derive(Clone, Copy)]
 pub struct Multiframe {
     pub block: BlockNumber,
     pub misses: u8,

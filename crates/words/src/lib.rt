@@ -7,7 +7,7 @@ use modes::Mode;
 use slots::Due;
 
 // What a word was read as. All but the last two hold its code.
-#[derive(Drop)]
+#[derive(Clone, Copy)]
 pub enum Reading {
     Mended(u8),
     Item(u8),

@@ -1,0 +1,6 @@
+-- `buffers::judge_streams` meets its contract: a row after the other.
+use borrow.Author.Rules.{rules}
+use Rattle.buffers.proofs.judge_streams.Goals as goal
+
+pub returns : goal.returns
+returns c = rw (c.judge.ensures, c.judge-heard.ensures)

@@ -1,0 +1,9 @@
+-- `service::odd_first` meets its contract: one SC bit.
+use Rattle.bits.proofs.BoolLaws.{bit-back}
+use Rattle.service.specs.Channel.{odd_first}
+use borrow.Author.Rules.{rules}
+use Rattle.service.proofs.odd_first.Goals as goal
+
+pub returns : goal.returns
+unfolding odd_first
+returns c = rw c.sc_bit.ensures.0 (bit-back _)
