@@ -1,5 +1,7 @@
 // Codes: which are carried, what a code makes of the words after it, and what it does to a mode as a command (document 01, 'Slots',
 // 'Sending a block' and 'Reading a block').
+#![tactic(auto)]
+
 ghost use Rattle.std.specs.Prelude.{◌≡◌, ◌&&◌, eqb};
 ghost use Rattle.table.specs.Table.{listed_audio, listed_lsd};
 ghost use Rattle.codes.specs.Codes.{attribute, value, audio_attribute, lsd_attribute};

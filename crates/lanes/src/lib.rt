@@ -1,4 +1,6 @@
 // The ten eights of a frame: fields of a buffer laid into them, single bits cut into them, and their octets written.
+#![tactic(auto)]
+
 ghost use Rattle.std.specs.Prelude.{◌≡◌, true, ℕ, ◌+◌, ◌-◌, ◌*◌, ◌^◌, ◌<◌, ◌≤◌, length, get_or, drop};
 ghost use Rattle.std.proofs.Math.Seq.{paste};
 ghost use Rattle.bits.specs.Bits.{nexts, bits_of, digit, number};

@@ -1,4 +1,6 @@
 // Modes, and whose each place of a frame is under one (document 01, 'Codes and bit places').
+#![tactic(auto)]
+
 ghost use Rattle.std.specs.Prelude.{◌≡◌, ◌&&◌, ◌||◌, leb};
 ghost use Rattle.modes.specs.Owners.{holds, held_by, owner_of, overlaps, bits_per_frame};
 ghost use Rattle.modes.specs.Modes.{off, with_audio, with_lsd, same_mode, turned_off, given_way, in_range};

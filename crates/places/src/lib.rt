@@ -1,4 +1,6 @@
 // The places of a frame: which stream owns each of them, as four numbers (document 01, 'Codes and bit places').
+#![tactic(auto)]
+
 ghost use Rattle.std.specs.Prelude.{◌≡◌};
 ghost use Rattle.places.specs.Layout.{layout_of, in_eights};
 

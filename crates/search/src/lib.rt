@@ -1,4 +1,6 @@
 // The search for alignment in a recording of the line (document 01, 'Finding alignment').
+#![tactic(auto)]
+
 ghost use Rattle.std.specs.Prelude.{◌≡◌, not, ℕ, ◌+◌, ◌-◌, ◌*◌, ◌/◌, ◌^◌, ◌≤◌, ◌<◌, length, get_or, drop};
 ghost use Rattle.bits.specs.Bits.{odd, sc_bit};
 ghost use Rattle.search.specs.Finding.{spells, aligned, search_of};

@@ -8,8 +8,7 @@ use Rattle.modes.specs.declared.Owner.{Owner}
 use Rattle.table.specs.declared.Places.{Places}
 use Rattle.modes.proofs.OwnerLaws.{held_fit, touching, clash_is}
 use borrow.Author.Rules.{rules}
-use Rattle.modes.proofs.give_way.Statement.{statement}
-use Rattle.modes.proofs.give_way.Tie as tie
+use Rattle.modes.proofs.give_way.Goals as goal
 
 -- what the test has shown of the definition
 shown : (m : Mode) (o s : Owner) (p q : Places) (r b : Bool) → p ≡ held_by m o → q ≡ held_by m s → r ≡ touching p q → r ≡ b
@@ -17,27 +16,12 @@ shown : (m : Mode) (o s : Owner) (p q : Places) (r b : Bool) → p ≡ held_by m
 shown m o s p q r b ep eq h t =
     clash_is (held_by m o) (held_by m s) (held_fit m o) (held_fit m s) ∙ sym (ap₂ touching ep eq) ∙ sym h ∙ t
 
-returns : tie.Need-returns
+pub returns-then-touch : goal.returns-then-touch
+unfolding given_way
+returns-then-touch c =
+    rw (c.turn_off.ensures, shown _ _ _ _ _ _ _ c.held_by-kept.ensures c.held_by-held.ensures c.touch.ensures c.if-touch.true)
+
+pub returns : goal.returns
 unfolding given_way
 returns c =
-    let t = c.before.before in
-    let second = t.before in
-    rw (c.turn-off.ensures, shown _ _ _ _ _ _ _ second.before.held_by.ensures second.held-by2.ensures t.touch.ensures c.before.if1.true)
-
-returns-2 : tie.Need-returns-2
-unfolding given_way
-returns-2 c =
-    let t = c.before in
-    let second = t.before in
-    rw (shown _ _ _ _ _ _ _ second.before.held_by.ensures second.held-by2.ensures t.touch.ensures c.if1.false)
-
-pub give-way-spec : {M : Type 1} → statement M
-give-way-spec =
-    tie.close
-    (tie.spec
-    (λ c κs. search rules)
-    (λ c κs. search rules)
-    (λ c κs. search rules)
-    (λ c κs. search rules)
-    returns
-    returns-2)
+    rw (shown _ _ _ _ _ _ _ c.held_by-kept.ensures c.held_by-held.ensures c.touch.ensures c.if-touch.false)

@@ -1,0 +1,6 @@
+-- `modes::touch` meets its contract: code and definition are one expression.
+use borrow.Author.Rules.{rules}
+use Rattle.modes.proofs.touch.Goals as goal
+
+pub returns : goal.returns
+returns c = rw (c.meet-2.ensures, c.meet.ensures)
