@@ -45,7 +45,7 @@ sorted o (p ∷ ps) s = step (sorted o ps (rest (p ∷ []) s)) (same_or o p)
         → (same o p ≡ 0) ⊎ ((same o p ≡ 1) × (o ≡ p))
         → sort o (p ∷ ps) (fill (p ∷ ps) s) ≡ nexts (count o (p ∷ ps)) (s o)
     step ih (inl e) = rw (ih, e, zero-add)
-    step ih (inr w) = rw (ih, w.0, one-add (count o ps), w.1)
+    step ih (inr w) = rw (ih, w.0, one-add (count o ps), w.1) (ap (λ (q : Owner). get_or (s p) 0 true ∷ nexts (count q ps) (drop 1 (s p))) (sym w.1))
 
 -- ---- counts
 pub count-append : (o : Owner) (xs ys : List Owner) → count o (xs ++ ys) ≡ count o xs + count o ys

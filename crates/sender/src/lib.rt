@@ -1,4 +1,6 @@
 // What a sender keeps between blocks, when that is in range, and the state that a session starts in (document 01, 'Sending a block').
+#![tactic(auto)]
+
 ghost use Rattle.std.specs.Prelude.{◌≡◌};
 ghost use Rattle.modes.specs.Modes.{audio_off};
 ghost use Rattle.sender.specs.State.{chosen_mode, state_in_range, fresh_with};

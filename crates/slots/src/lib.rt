@@ -1,4 +1,6 @@
 // Slots: what a BAS word is due to be, and what the word after it is (document 01, 'Slots').
+#![tactic(auto)]
+
 ghost use Rattle.std.specs.Prelude.{◌≡◌};
 ghost use Rattle.slots.specs.Slots.{due_by, due_now, words_due, length_in, opening_in, due_after, slot_of, due_of};
 

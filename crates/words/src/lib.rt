@@ -1,4 +1,6 @@
 // What a BAS word is read as where it stands, and what that does to the mode (document 01, 'Slots' and 'Reading a block').
+#![tactic(auto)]
+
 ghost use Rattle.std.specs.Prelude.{◌≡◌};
 ghost use Rattle.words.specs.Readings.{plain_reading, item_reading, code_reading, reading_in, obeyed};
 

@@ -9,8 +9,7 @@ use Rattle.modes.specs.Owners.{held_by}
 use Rattle.modes.proofs.OwnerLaws.{held_fit}
 use Rattle.modes.specs.declared.Owner.TheVariants.{Voice, Lsd}
 use borrow.Author.Rules.{rules}
-use Rattle.places.proofs.layout_of.Statement.{statement}
-use Rattle.places.proofs.layout_of.Tie as tie
+use Rattle.places.proofs.layout_of.Goals as goal
 
 laid : (m : Mode) (v d : Places) (n : ℕ) → v ≡ held_by m Voice → d ≡ held_by m Lsd → n ≡ min (8 - d.from) (7 - v.to)
     → record { width = v.to; columns = n; first = d.first.0; last = d.last.0 } ≡ layout_of m
@@ -19,22 +18,18 @@ laid m v d n ev ed en =
     ap (λ (k : ℕ). record { width = v.to; columns = k; first = d.first.0; last = d.last.0 }) en
     ∙ ap₂ (λ (x y : Places). record { width = x.to; columns = min (8 - y.from) (7 - x.to); first = y.first.0; last = y.last.0 }) ev ed
 
-sub-left : tie.Need-overflow-sub-left
-sub-left c =
-    let a = c.before.before.before.args in
-    rw c.before.before.held_by.ensures (held_fit a.mode Voice).ends
+pub overflow_sub-left : goal.overflow_sub-left
+overflow_sub-left c =
+    let a = c.args in
+    rw c.held_by-voice.ensures (held_fit a.mode Voice).ends
 
-sub-wanted : tie.Need-overflow-sub-wanted
-sub-wanted c =
-    let a = c.before.before.before.before.args in
-    rw c.before.before.held-by2.ensures (omega (arith, (held_fit a.mode Lsd).spans, (held_fit a.mode Lsd).ends))
+pub overflow_sub-wanted : goal.overflow_sub-wanted
+overflow_sub-wanted c =
+    let a = c.args in
+    rw c.held_by-lsd.ensures (omega (arith, (held_fit a.mode Lsd).spans, (held_fit a.mode Lsd).ends))
 
-returns : tie.Need-returns
-returns c = laid _ _ _ _ c.before.before.before.before.held_by.ensures c.before.before.before.held-by2.ensures (omega arith)
+pub returns-then-wanted-left : goal.returns-then-wanted-left
+returns-then-wanted-left c = laid _ _ _ _ c.held_by-voice.ensures c.held_by-lsd.ensures (omega arith)
 
-returns-2 : tie.Need-returns-2
-returns-2 c = laid _ _ _ _ c.before.before.before.before.held_by.ensures c.before.before.before.held-by2.ensures (omega arith)
-
-pub layout-of-spec : {M : Type 1} → statement M
-layout-of-spec =
-    tie.close (tie.spec (λ c κs. search rules) (λ c κs. search rules) sub-left sub-wanted returns returns-2)
+pub returns : goal.returns
+returns c = laid _ _ _ _ c.held_by-voice.ensures c.held_by-lsd.ensures (omega arith)

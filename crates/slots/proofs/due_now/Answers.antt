@@ -1,0 +1,6 @@
+-- `slots::due_now` meets its contract: a case for each kind of slot.
+use borrow.Author.Rules.{rules}
+use Rattle.slots.proofs.due_now.Goals as goal
+
+pub returns-in-Words : goal.returns-in-Words
+returns-in-Words c = rw (c.words_due.ensures, c.in-Words.is)
