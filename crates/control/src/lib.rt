@@ -1,5 +1,7 @@
 // What a sender decides of a call, before any octet is written: whether it is refused, the word that goes, the answer, and the state that is
 // left (document 01, 'Sending a block' and 'Refusal numbers').
+#![tactic(auto)]
+
 ghost use Rattle.std.specs.Prelude.{◌≡◌};
 ghost use Rattle.buffers.specs.Buffers.{each};
 ghost use Rattle.control.specs.Rules.{rule_of};

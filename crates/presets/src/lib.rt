@@ -1,4 +1,6 @@
 // Presets: a sender's chosen audio and data as sixteen bits (document 01, 'Preset').
+#![tactic(auto)]
+
 ghost use Rattle.std.specs.Prelude.{◌≡◌};
 ghost use Rattle.presets.specs.Presets.{is_preset, preset_read, preset_written};
 

@@ -1,4 +1,6 @@
 // Presets as a driver reads and writes them, by value and in the numbers that cross to C (document 01, 'Preset').
+#![tactic(auto)]
+
 ghost use Rattle.std.specs.Prelude.{◌≡◌};
 ghost use Rattle.presets.specs.Presets.{preset_number};
 ghost use Rattle.presetting.specs.Presetting.{preset_answer_of, preset_bits_of, preset_taken, preset_given};

@@ -1,0 +1,6 @@
+-- `control::next_by` meets its contract: the block after.
+use borrow.Author.Rules.{rules}
+use Rattle.control.proofs.next_by.Goals as goal
+
+pub returns : goal.returns
+returns c = rw c.next_block-block.ensures

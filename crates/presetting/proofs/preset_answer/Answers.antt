@@ -1,0 +1,6 @@
+-- `presetting::preset_answer` meets its contract: each number is its part's.
+use borrow.Author.Rules.{rules}
+use Rattle.presetting.proofs.preset_answer.Goals as goal
+
+pub returns : goal.returns
+returns c = rw c.preset_number-number.ensures
