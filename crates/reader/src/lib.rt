@@ -1,4 +1,6 @@
 // What a reader keeps between blocks, when that is in range, and the state that it starts in (document 01, 'Reading a block').
+#![tactic(auto)]
+
 ghost use Rattle.std.specs.Prelude.{◌≡◌, ◌&&◌};
 ghost use Rattle.modes.specs.Modes.{off, in_range};
 ghost use Rattle.reader.specs.State.{state_in_range, fresh_in};

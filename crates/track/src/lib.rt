@@ -1,4 +1,6 @@
 // What a block does to what a reader keeps: alignment, CRC verdict, word and multiframe place (document 01, 'Reading a block' and 'CRC-4').
+#![tactic(auto)]
+
 ghost use Rattle.std.specs.Prelude.{◌≡◌, ◌≤◌};
 ghost use Rattle.service.specs.Channel.{wrong_bits};
 ghost use Rattle.track.specs.Signs.{word_in, signs_of};

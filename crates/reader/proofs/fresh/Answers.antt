@@ -1,0 +1,6 @@
+-- `reader::fresh` meets its contract: everything off.
+use borrow.Author.Rules.{rules}
+use Rattle.reader.proofs.fresh.Goals as goal
+
+pub returns : goal.returns
+returns c = rw (c.fresh_in.ensures, c.off.ensures)

@@ -1,0 +1,6 @@
+-- `track::lose` meets its contract: the fresh state in the mode before.
+use borrow.Author.Rules.{rules}
+use Rattle.track.proofs.lose.Goals as goal
+
+pub returns : goal.returns
+returns c = rw (c.fresh_in-gone.ensures, c.mode_before.ensures)
