@@ -1,4 +1,6 @@
 // One half of a block, which is a frame, as the writer fills it by the four numbers of a layout, eight octets at a time.
+#![tactic(auto)]
+
 ghost use Rattle.std.specs.Prelude.{◌≡◌, true, [], ℕ, ◌+◌, ◌-◌, ◌*◌, ◌/◌, ◌%◌, ◌<◌, ◌≤◌, length, get_or, drop};
 ghost use Rattle.bits.specs.Bits.{bits_of, low_bits};
 ghost use Rattle.buffers.specs.Lengths.{stream_octets};

@@ -4,18 +4,13 @@ use Prim.Native.Nat.{ℕ, ◌-◌, ◌*◌, ◌%◌, ◌^◌, ◌≤◌}
 use native.Mathlib.Omega.{arith}
 use lib.Pow.{pow_pos, shl_exact, ones_lt}
 use Rattle.bits.proofs.ShiftLaws.{one_shl}
-use borrow.Author.Rules.{rules}
-use Rattle.lanes.proofs.ones_above.Statement.{statement}
-use Rattle.lanes.proofs.ones_above.Tie as tie
+use Rattle.lanes.proofs.ones_above.Goals as goal
 
 ones_shl : (g t : ℕ) → g ≤ 8 → t ≤ 8 → (1 * 2 ^ g % 2 ^ 64 - 1) * 2 ^ t % 2 ^ 64 ≡ (2 ^ g - 1) * 2 ^ t
 ones_shl g t hg ht = rw (one_shl g (omega arith)) (shl_exact {a = 2 ^ g - 1} g t 64 (ones_lt g) (omega arith))
 
-sub-result : tie.Need-overflow-sub-result
-sub-result c = rw (one_shl c.args.n (omega arith)) (pow_pos c.args.n)
+pub overflow_sub-result : goal.overflow_sub-result
+overflow_sub-result c = rw (one_shl c.args.n (omega arith)) (pow_pos c.args.n)
 
-returns : tie.Need-returns
+pub returns : goal.returns
 returns c = ones_shl c.args.n c.args.up (omega arith) (omega arith)
-
-pub ones-above-spec : {M : Type 1} → statement M
-ones-above-spec = tie.close (tie.spec (λ c. search rules) sub-result (λ c. search rules) returns)
