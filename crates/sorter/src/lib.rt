@@ -1,4 +1,6 @@
 // Voice and data sorted out of a block's octets, each into a buffer of its own (document 01, 'Reading a block').
+#![tactic(auto)]
+
 ghost use Rattle.std.specs.Prelude.{◌≡◌, true, ◌++◌, ◌+◌, ◌-◌, ◌*◌, ◌%◌, ◌≤◌, length};
 ghost use Rattle.bits.specs.Bits.{bits_of, octets};
 ghost use Rattle.packing.specs.Filled.{runs, Filled};

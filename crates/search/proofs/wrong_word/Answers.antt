@@ -3,36 +3,15 @@ use mathlib.Core.Path.{◌≡◌}
 use mathlib.Core.Bool.{true, xor}
 use Prim.Native.Nat.{ℕ, ◌/◌, ◌^◌}
 use lib.Bits.{bit_xor}
-use borrow.Author.Rules.{rules}
 use Rattle.bits.specs.Bits.{odd}
 use Rattle.bits.proofs.BitLaws.{bit-or, bit-and, sc_is}
 use Rattle.search.specs.Groups.{plane}
 use Rattle.search.proofs.PlaneLaws.{bit-turned, plane_at}
 use Rattle.search.proofs.WrongLaws.{not_spelled}
-use Rattle.search.proofs.wrong_word.Statement.{statement}
-use Rattle.search.proofs.wrong_word.Tie as tie
+use Rattle.search.proofs.wrong_word.Goals as goal
 
-returns : tie.Need-returns
+pub returns : goal.returns
 returns c = λ k h.
-    let a = c.before.before.before.before.before.before.before.args in
+    let a = c.args in
     let turned : (x : ℕ) → odd (bit_xor x 255 / 2 ^ k) ≡ xor (odd (x / 2 ^ k)) true = λ x. bit-turned x k h in
     simp (bit-or, bit-and, turned) (simp (plane_at, sc_is) at (not_spelled a.at (plane k a.part.now)))
-
-pub wrong-word-spec : {M : Type 1} → statement M
-wrong-word-spec =
-    tie.close
-    (tie.spec
-    (λ c. search rules)
-    (λ c. search rules)
-    (λ c. search rules)
-    (λ c. search rules)
-    (λ c. search rules)
-    (λ c. search rules)
-    (λ c. search rules)
-    (λ c. search rules)
-    (λ c. search rules)
-    (λ c. search rules)
-    (λ c. search rules)
-    (λ c. search rules)
-    (λ c. search rules)
-    returns)

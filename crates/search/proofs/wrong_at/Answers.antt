@@ -4,33 +4,18 @@ use mathlib.Core.Bool.{true, xor}
 use Prim.Native.Nat.{ℕ, ◌+◌, ◌/◌, ◌^◌}
 use native.Mathlib.Omega.{arith}
 use lib.Bits.{bit_xor}
-use borrow.Author.Rules.{rules}
 use Rattle.bits.specs.Bits.{odd}
 use Rattle.bits.proofs.BitLaws.{bit-or, sc_is}
 use Rattle.search.specs.Groups.{plane}
 use Rattle.search.proofs.PlaneLaws.{bit-turned, length-plane, plane_at}
 use Rattle.search.proofs.WrongLaws.{not_aligned}
-use Rattle.search.proofs.wrong_at.Statement.{statement}
-use Rattle.search.proofs.wrong_at.Tie as tie
+use Rattle.search.proofs.wrong_at.Goals as goal
 
-returns : tie.Need-returns
+pub returns : goal.returns
 returns c = λ k h.
-    let s = c.before.before in
-    let a = s.before.before.args in
+    let a = c.args in
     let part = a.part.now in
     let turned : (x : ℕ) → odd (bit_xor x 255 / 2 ^ k) ≡ xor (odd (x / 2 ^ k)) true = λ x. bit-turned x k h in
     simp (bit-or, turned)
-    (rw (s.wrong_word.ensures k h, c.wrong-word2.ensures k h)
+    (rw (c.wrong_word.ensures k h, c.wrong_word-2.ensures k h)
     (rw (plane_at k part (a.at + 81), sc_is) at (not_aligned a.at (plane k part) (omega (arith, length-plane k part)))))
-
-pub wrong-at-spec : {M : Type 1} → statement M
-wrong-at-spec =
-    tie.close
-    (tie.spec
-    (λ c. search rules)
-    (λ c κs. search rules)
-    (λ c. search rules)
-    (λ c. search rules)
-    (λ c. search rules)
-    (λ c κs. search rules)
-    returns)

@@ -1,0 +1,34 @@
+-- `search::after_last_group` meets its contract: the places from the start on are among those that were tested.
+use mathlib.Core.Path.{◌≡◌, refl}
+use mathlib.Core.Bool.{true}
+use Prim.Native.Nat.{◌-◌}
+use native.Mathlib.Omega.{arith}
+use lib.ListN.{length, drop, length-drop}
+use Rattle.search.specs.Groups.{none_of}
+use Rattle.search.proofs.PlaceLaws.{lent-part}
+use Rattle.search.proofs.GroupLaws.{passed_to_the_end}
+use Rattle.search.proofs.after_last_group.Goals as goal
+
+pub returns-then-all-lt2216 : goal.returns-then-all-lt2216
+returns-then-all-lt2216 c = refl
+
+pub returns-then-start-last : goal.returns-then-start-last
+returns-then-start-last c = refl
+
+pub returns-then-last-start : goal.returns-then-last-start
+returns-then-last-start c = refl
+
+pub none_of_group-requires : goal.none_of_group-requires
+none_of_group-requires c = simp (lent-part, length-drop) (omega arith)
+
+pub returns-then-not-none_of_group : goal.returns-then-not-none_of_group
+returns-then-not-none_of_group c = refl
+
+pub returns : goal.returns
+returns c =
+    let a = c.args in
+    let recording = a.recording.now in
+    let last = length recording - 2216 in
+    let none : none_of 2048 (drop last recording) ≡ true =
+    rw (c.none_of_group.ensures, lent-part last recording) at c.if-not-none_of_group.false in
+    passed_to_the_end 2048 last a.start recording (omega arith) (omega arith) (omega arith) none
