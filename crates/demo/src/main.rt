@@ -1,11 +1,12 @@
 // A short lesson as a table, with a row for each call: voice on, page cues on, mute pressed where an escape has made the next word an item,
 // mute held, mute released. Every block goes into a recording, which is listed as the far end reads it. The last line says what the far end
 // got of the microphone while mute was set.
+#![tactic(auto)]
+
 ghost use Rattle.std.specs.Prelude.{◌+◌, ◌*◌, ◌≤◌, length};
 ghost use Rattle.buffers.specs.Lengths.{line_octets};
 
 use control::{Answer, Call};
-use libc::STDOUT_FILENO;
 use modes::{Mode, Owner};
 use reader::Reader;
 use sender::Sender;
@@ -44,12 +45,13 @@ struct Heard {
     block: usize,
 }
 
-fn text(s: &[u8]) {
-    io::write_all(STDOUT_FILENO, s);
+// What cannot be written is not told: all that is written is compared with the file `stdout`.
+fn text(rt: &impl Print, s: &[u8]) {
+    let _ = rt.write_all(s);
 }
 
-fn decimal(n: usize) {
-    io::print_decimal(STDOUT_FILENO, n as u64);
+fn decimal(rt: &impl Print, n: usize) {
+    let _ = rt.print(n);
 }
 
 fn digit(d: u8) -> u8 {
@@ -57,9 +59,9 @@ fn digit(d: u8) -> u8 {
     if low < 10 { 48 + low } else { 55 + low }
 }
 
-fn hex(x: u8) {
+fn hex(rt: &impl Print, x: u8) {
     let digits = [digit(x / 16), digit(x)];
-    text(&digits);
+    text(rt, &digits);
 }
 
 // How many octets of voice a block has under a mode: 20 for each bit that the audio in force holds.
@@ -76,97 +78,97 @@ fn zeros(stream: &[u8], octets: usize) -> u64 {
     let mut bits = 0u64;
     for i in 0..stream.len() {
         if i < octets {
-            bits = std::num::wrapping_add_u64(bits, wide(u8::count_ones(!stream[i])));
+            bits = bits.wrapping_add(wide((!stream[i]).count_ones()));
         }
     }
     bits
 }
 
-fn tell_block(answer: Answer, block: usize) {
+fn tell_block(rt: &impl Print, answer: Answer, block: usize) {
     if let Answer::Refused(_) = answer {
-        text(b"    -");
+        text(rt, b"    -");
         return;
     }
-    text(b"   ");
+    text(rt, b"   ");
     if block < 10 {
-        text(b" ");
+        text(rt, b" ");
     }
-    decimal(block);
+    decimal(rt, block);
 }
 
 // What the panel says, and what is offered.
-fn tell_call(call: Call) {
+fn tell_call(rt: &impl Print, call: Call) {
     if call.mute {
-        text(b"  set    ");
+        text(rt, b"  set    ");
     } else {
-        text(b"  clear  ");
+        text(rt, b"  clear  ");
     }
-    hex(call.code);
-    text(b"       ");
+    hex(rt, call.code);
+    text(rt, b"       ");
 }
 
 // What became of it, by the answer and by the word that was due.
-fn tell_answer(answer: Answer, due: u8) {
+fn tell_answer(rt: &impl Print, answer: Answer, due: u8) {
     match answer {
         Answer::Sent => {
             if due != 0 {
-                text(b"sent as item     ");
+                text(rt, b"sent as item     ");
             } else {
-                text(b"sent as command  ");
+                text(rt, b"sent as command  ");
             }
         }
-        Answer::Held => text(b"held             "),
+        Answer::Held => text(rt, b"held             "),
         Answer::Refused(why) => {
-            text(b"refused ");
-            decimal(refusals::number_of(why) as usize);
-            text(b"        ");
+            text(rt, b"refused ");
+            decimal(rt, refusals::number_of(why) as usize);
+            text(rt, b"        ");
         }
     }
 }
 
 // The word that the line says, read back as the far end reads it.
-fn tell_word(line: &[u8]) {
+fn tell_word(rt: &impl Print, line: &[u8]) {
     match bas::read_word(service::bas_word(line)) {
-        bas::Word::Code(code) => hex(code),
-        bas::Word::Unreadable => text(b"--"),
+        bas::Word::Code(code) => hex(rt, code),
+        bas::Word::Unreadable => text(rt, b"--"),
     }
 }
 
 // What the block's voice places carry, taken out of the octets.
-fn tell_voice(mode: Mode, line: &[u8]) {
+fn tell_voice(rt: &impl Print, mode: Mode, line: &[u8]) {
     let mut voice = [0u8; buffers::VOICE];
     let mut lsd = [0u8; buffers::LSD];
     let octets = voice_octets(mode);
     sorter::hand_out(line, mode, &mut voice, &mut lsd);
     if octets == 0 {
-        text(b"none\n");
+        text(rt, b"none\n");
         return;
     }
     if zeros(&voice, octets) == 0 {
-        text(b"ones\n");
+        text(rt, b"ones\n");
         return;
     }
-    text(b"voice\n");
+    text(rt, b"voice\n");
 }
 
 // What is on the line after a call; a refused one writes nothing.
-fn tell_line(answer: Answer, mode: Mode, line: &[u8]) {
+fn tell_line(rt: &impl Print, answer: Answer, mode: Mode, line: &[u8]) {
     if let Answer::Refused(_) = answer {
-        text(b"--           --\n");
+        text(rt, b"--           --\n");
         return;
     }
-    tell_word(line);
-    text(b"           ");
-    tell_voice(mode, line);
+    tell_word(rt, line);
+    text(rt, b"           ");
+    tell_voice(rt, mode, line);
 }
 
 // A call's row: what it found, what became of it, and its block.
-fn tell(block: usize, found: Sender, call: Call, answer: Answer, line: &[u8]) {
+fn tell(rt: &impl Print, block: usize, found: Sender, call: Call, answer: Answer, line: &[u8]) {
     let mode = found.mode;
-    tell_block(answer, block);
-    tell_call(call);
-    tell_answer(answer, found.due);
-    tell_line(answer, mode, line);
+    tell_block(rt, answer, block);
+    tell_call(rt, call);
+    tell_answer(rt, answer, found.due);
+    tell_line(rt, answer, mode, line);
 }
 
 // The call, with the same voice and data each time.
@@ -199,7 +201,7 @@ fn call_of(mute: bool, code: u8) -> Call {
 }
 
 // One call, made and told, its block written where the recording ends.
-fn step(recording: &mut [u8], found: Lesson, mute: bool, code: u8) -> Lesson
+fn step(rt: &impl Print, recording: &mut [u8], found: Lesson, mute: bool, code: u8) -> Lesson
     requires { (found.blocks ≤ 15) × (line_octets * found.blocks + line_octets ≤ length recording.old) }
     ensures { (found.blocks ≤ result.blocks) × (result.blocks ≤ found.blocks + 1) }
 {
@@ -211,6 +213,7 @@ fn step(recording: &mut [u8], found: Lesson, mute: bool, code: u8) -> Lesson
     let answer = outcome.answer;
     let next = outcome.state;
     tell(
+        rt,
         blocks,
         state,
         call,
@@ -224,24 +227,31 @@ fn step(recording: &mut [u8], found: Lesson, mute: bool, code: u8) -> Lesson
 }
 
 // The calls from one number up to another, mute set or clear in all of them.
-fn told(recording: &mut [u8], begun: Lesson, mute: bool, from: usize, to: usize) -> Lesson
+fn told(
+    rt: &impl Print,
+    recording: &mut [u8],
+    begun: Lesson,
+    mute: bool,
+    from: usize,
+    to: usize,
+) -> Lesson
     requires { (begun.blocks ≤ from) × (from ≤ to) × (to ≤ 15) × (line_octets * to ≤ length recording.old) }
     ensures { (begun.blocks ≤ result.blocks) × (result.blocks ≤ to) }
 {
     let mut lesson = begun;
     for i in from..to {
-        let next = step(recording, lesson, mute, CODES[i]);
+        let next = step(rt, recording, lesson, mute, CODES[i]);
         lesson = next;
     }
     lesson
 }
 
 // What the far end makes of the recording.
-fn tell_listing(recording: &[u8]) {
+fn tell_listing(rt: &impl Print, recording: &[u8]) {
     let mut listing = [0u8; 1024];
     let end = scribe::list(recording, &mut listing);
     if end <= 1024 {
-        text(&listing[..end]);
+        text(rt, &listing[..end]);
     }
 }
 
@@ -275,7 +285,7 @@ fn is_off(answer: reading::Answer) -> bool {
 
 // The first block in which "audio off" came as a command is kept.
 fn after(heard: Heard, answer: reading::Answer, next: Reader, bits: u64, block: usize) -> Heard {
-    let all = std::num::wrapping_add_u64(heard.bits, bits);
+    let all = heard.bits.wrapping_add(bits);
     if heard.off {
         return Heard {
             reader: next,
@@ -324,35 +334,35 @@ fn listened(recording: &[u8], reader: Reader, from: usize, to: usize) -> Heard
 }
 
 // What was seen of the blocks with mute set. The panel's mute is true where no bit of the microphone went, and the far end was told.
-fn tell_seen(blocks: usize, heard: Heard) {
-    text(b"after the press: ");
-    decimal(blocks);
-    text(b" blocks with mute set, ");
-    io::print_decimal(STDOUT_FILENO, heard.bits);
-    text(b" bits of the microphone on the line, audio off ");
+fn tell_seen(rt: &impl Print, blocks: usize, heard: Heard) {
+    text(rt, b"after the press: ");
+    decimal(rt, blocks);
+    text(rt, b" blocks with mute set, ");
+    let _ = rt.print(heard.bits);
+    text(rt, b" bits of the microphone on the line, audio off ");
     if heard.off {
-        text(b"read as a command in block ");
-        decimal(heard.block);
+        text(rt, b"read as a command in block ");
+        decimal(rt, heard.block);
     } else {
-        text(b"not read as a command");
+        text(rt, b"not read as a command");
     }
     if heard.off & (heard.bits == 0) {
-        text(b": the panel's mute is true\n");
+        text(rt, b": the panel's mute is true\n");
     } else {
-        text(b": THE PANEL'S MUTE IS NOT TRUE\n");
+        text(rt, b": THE PANEL'S MUTE IS NOT TRUE\n");
     }
 }
 
 // What the far end heard of the blocks from one number up to another, of which it reads those before them first.
-fn judged(recording: &[u8], from: usize, to: usize)
+fn judged(rt: &impl Print, recording: &[u8], from: usize, to: usize)
     requires { (from ≤ to) × (to ≤ 15) × (line_octets * to ≤ length recording.now) }
 {
     let before = listened(recording, reader::fresh(), 0, from);
     let reader = before.reader;
-    tell_seen(to - from, listened(recording, reader, from, to));
+    tell_seen(rt, to - from, listened(recording, reader, from, to));
 }
 
-fn main() {
+fn main(rt: HostRuntime) {
     // Room for the blocks of all calls.
     let mut recording = [0u8; 2400];
     let fresh = sender::fresh();
@@ -360,13 +370,16 @@ fn main() {
         state: fresh,
         blocks: 0,
     };
-    text(b"block  mute   offered  became of it     on the line  voice places\n");
-    let open = told(&mut recording, begun, false, 0, PRESSED);
-    let silent = told(&mut recording, open, true, PRESSED, RELEASED);
-    let done = told(&mut recording, silent, false, RELEASED, 15);
+    text(
+        &rt,
+        b"block  mute   offered  became of it     on the line  voice places\n",
+    );
+    let open = told(&rt, &mut recording, begun, false, 0, PRESSED);
+    let silent = told(&rt, &mut recording, open, true, PRESSED, RELEASED);
+    let done = told(&rt, &mut recording, silent, false, RELEASED, 15);
     let end = buffers::LINE * done.blocks;
-    text(b"\nthe lesson, listed as the far end reads it:\n");
-    tell_listing(&recording[..end]);
-    text(b"\n");
-    judged(&recording, open.blocks, silent.blocks);
+    text(&rt, b"\nthe lesson, listed as the far end reads it:\n");
+    tell_listing(&rt, &recording[..end]);
+    text(&rt, b"\n");
+    judged(&rt, &recording, open.blocks, silent.blocks);
 }

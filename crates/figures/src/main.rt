@@ -1,16 +1,18 @@
 // Runs document 01's figures for bits, BAS words, codes and places, and source document 001's table 2 and data rates.
 // What it prints is held to the file `stdout`, which is written from those two papers.
+#![tactic(auto)]
+
 use bas::Word;
-use libc::STDOUT_FILENO;
 use modes::{Mode, Owner};
 use numbers::OctetNumber;
 
-fn text(s: &[u8]) {
-    io::write_all(STDOUT_FILENO, s);
+// What cannot be written is not told: all that is written is compared with the file `stdout`.
+fn text(rt: &impl Print, s: &[u8]) {
+    let _ = rt.write_all(s);
 }
 
-fn decimal(n: u64) {
-    io::print_decimal(STDOUT_FILENO, n);
+fn decimal(rt: &impl Print, n: u64) {
+    let _ = rt.print(n);
 }
 
 fn digit(d: u8) -> u8 {
@@ -18,12 +20,12 @@ fn digit(d: u8) -> u8 {
     if low < 10 { 48 + low } else { 55 + low }
 }
 
-fn hex(x: u8) {
+fn hex(rt: &impl Print, x: u8) {
     let digits = [digit(x / 16), digit(x)];
-    text(&digits);
+    text(rt, &digits);
 }
 
-fn binary(x: u8) {
+fn binary(rt: &impl Print, x: u8) {
     let digits = [
         48 + x / 128 % 2,
         48 + x / 64 % 2,
@@ -34,35 +36,35 @@ fn binary(x: u8) {
         48 + x / 2 % 2,
         48 + x % 2,
     ];
-    text(&digits);
+    text(rt, &digits);
 }
 
-fn check(code: u8) {
-    text(b"check ");
-    hex(code);
-    text(b" ");
-    hex(bas::check_octet(code));
-    text(b"\n");
+fn check(rt: &impl Print, code: u8) {
+    text(rt, b"check ");
+    hex(rt, code);
+    text(rt, b" ");
+    hex(rt, bas::check_octet(code));
+    text(rt, b"\n");
 }
 
-fn sent(code: u8) {
+fn sent(rt: &impl Print, code: u8) {
     let line = bas::line_order(bas::word_of(code));
-    text(b"sent ");
-    hex(code);
-    text(b" ");
-    binary((line / 256) as u8);
-    text(b" ");
-    binary((line % 256) as u8);
-    text(b"\n");
+    text(rt, b"sent ");
+    hex(rt, code);
+    text(rt, b" ");
+    binary(rt, (line / 256) as u8);
+    text(rt, b" ");
+    binary(rt, (line % 256) as u8);
+    text(rt, b"\n");
 }
 
 // The CRC-4 of a block all 0 but for one octet.
-fn crc(at: usize, octet: u8) {
+fn crc(rt: &impl Print, at: usize, octet: u8) {
     let mut block = [0u8; 160];
     block[at % 160] = octet;
-    text(b"crc ");
-    binary(crc::block_crc(&block));
-    text(b"\n");
+    text(rt, b"crc ");
+    binary(rt, crc::block_crc(&block));
+    text(rt, b"\n");
 }
 
 // How many words were read as the code that was sent, as another one, and as unreadable.
@@ -78,35 +80,35 @@ fn tallied(t: Tally, code: u8, word: u16) -> Tally {
     match bas::read_word(word) {
         Word::Code(read) => {
             if read == code {
-                next.sent = std::num::wrapping_add_u64(t.sent, 1);
+                next.sent = t.sent.wrapping_add(1);
             } else {
-                next.other = std::num::wrapping_add_u64(t.other, 1);
+                next.other = t.other.wrapping_add(1);
             }
         }
         Word::Unreadable => {
-            next.unreadable = std::num::wrapping_add_u64(t.unreadable, 1);
+            next.unreadable = t.unreadable.wrapping_add(1);
         }
     }
     next
 }
 
 // How many remainders are mended, and how many not.
-fn print_mended(t: Tally) {
-    text(b"remainders mended ");
-    decimal(std::num::wrapping_add_u64(t.sent, t.other));
-    text(b" not ");
-    decimal(t.unreadable);
-    text(b"\n");
+fn print_mended(rt: &impl Print, t: Tally) {
+    text(rt, b"remainders mended ");
+    decimal(rt, t.sent.wrapping_add(t.other));
+    text(rt, b" not ");
+    decimal(rt, t.unreadable);
+    text(rt, b"\n");
 }
 
-fn print_tally(t: Tally) {
-    text(b"three wrong bits: read as sent ");
-    decimal(t.sent);
-    text(b" other ");
-    decimal(t.other);
-    text(b" unreadable ");
-    decimal(t.unreadable);
-    text(b"\n");
+fn print_tally(rt: &impl Print, t: Tally) {
+    text(rt, b"three wrong bits: read as sent ");
+    decimal(rt, t.sent);
+    text(rt, b" other ");
+    decimal(rt, t.other);
+    text(rt, b" unreadable ");
+    decimal(rt, t.unreadable);
+    text(rt, b"\n");
 }
 
 // Each check octet beside code 00 leaves a remainder of its own.
@@ -168,48 +170,51 @@ fn each_three() -> Tally {
 }
 
 // Whether an audio value and a data value overlap.
-fn overlap(audio: u8, lsd: u8) {
-    text(b"audio [");
-    decimal(audio as u64);
-    text(b"] with data [");
-    decimal(lsd as u64);
+fn overlap(rt: &impl Print, audio: u8, lsd: u8) {
+    text(rt, b"audio [");
+    decimal(rt, audio as u64);
+    text(rt, b"] with data [");
+    decimal(rt, lsd as u64);
     let mode = modes::with_lsd(modes::with_audio(modes::off(), audio), lsd);
     if modes::overlap(mode) {
-        text(b"] overlap\n");
+        text(rt, b"] overlap\n");
     } else {
-        text(b"] accepted\n");
+        text(rt, b"] accepted\n");
     }
 }
 
 // Data [v]: bits a frame, and bits a second at 100 frames.
-fn rate(v: u8) {
+fn rate(rt: &impl Print, v: u8) {
     let mode = modes::with_lsd(modes::off(), v);
     let bits = modes::bits_per_frame(mode, Owner::Lsd);
-    text(b"data [");
-    decimal(v as u64);
-    text(b"] ");
-    decimal(bits as u64);
-    text(b" ");
-    decimal((bits as u64) * 100);
-    text(b"\n");
+    text(rt, b"data [");
+    decimal(rt, v as u64);
+    text(rt, b"] ");
+    decimal(rt, bits as u64);
+    text(rt, b" ");
+    decimal(rt, (bits as u64) * 100);
+    text(rt, b"\n");
 }
 
-fn rates() {
+fn rates(rt: &impl Print) {
     for v in 0u8..15 {
-        rate(v);
+        rate(rt, v);
     }
 }
 
 // Table 2: which bit of the word each place of the line carries.
-fn line_places() {
+fn line_places(rt: &impl Print) {
     for i in 0..8 {
-        text(b"SC bit ");
-        decimal(9 + (i as u64) % 8);
-        text(b" b");
-        decimal(bit_index(bas::line_order(SINGLE[15 - i])));
-        text(b" p");
-        decimal(std::num::wrapping_sub_u64(bit_index(bas::line_order(SINGLE[7 - i])), 8));
-        text(b"\n");
+        text(rt, b"SC bit ");
+        decimal(rt, 9 + (i as u64) % 8);
+        text(rt, b" b");
+        decimal(rt, bit_index(bas::line_order(SINGLE[15 - i])));
+        text(rt, b" p");
+        decimal(
+            rt,
+            bit_index(bas::line_order(SINGLE[7 - i])).wrapping_sub(8),
+        );
+        text(rt, b"\n");
     }
 }
 
@@ -233,48 +238,48 @@ fn letter(owner: Owner) -> u8 {
     }
 }
 
-fn print_bit(mode: Mode, bit: u8) {
-    text(b"bit ");
-    decimal(bit as u64);
-    text(b" ");
+fn print_bit(rt: &impl Print, mode: Mode, bit: u8) {
+    text(rt, b"bit ");
+    decimal(rt, bit as u64);
+    text(rt, b" ");
     for octet in 1u8..81 {
         let one = [letter(modes::owner_of(mode, OctetNumber(octet), bit))];
-        text(&one);
+        text(rt, &one);
     }
-    text(b"\n");
+    text(rt, b"\n");
 }
 
 // A frame, octet 1 to 80 from left to right: S service, V voice, D data, a point where nobody holds the place.
-fn picture(mode: Mode) {
+fn picture(rt: &impl Print, mode: Mode) {
     for bit in 1u8..9 {
-        print_bit(mode, bit);
+        print_bit(rt, mode, bit);
     }
 }
 
-fn main() {
-    check(0x00);
-    check(0x01);
-    check(0x80);
-    check(0x12);
-    check(0x1F);
-    check(0xF0);
-    check(0x65);
-    sent(0x1F);
-    crc(0, 0);
-    crc(159, 1);
-    crc(159, 2);
-    crc(0, 128);
-    print_mended(each_remainder());
-    print_tally(each_three());
-    overlap(20, 5);
-    overlap(21, 5);
-    overlap(25, 5);
-    overlap(18, 5);
-    overlap(19, 5);
-    overlap(24, 5);
-    rates();
-    text(b"table 2\n");
-    line_places();
-    text(b"a frame of audio [20] with data [6]\n");
-    picture(modes::with_lsd(modes::with_audio(modes::off(), 20), 6));
+fn main(rt: HostRuntime) {
+    check(&rt, 0x00);
+    check(&rt, 0x01);
+    check(&rt, 0x80);
+    check(&rt, 0x12);
+    check(&rt, 0x1F);
+    check(&rt, 0xF0);
+    check(&rt, 0x65);
+    sent(&rt, 0x1F);
+    crc(&rt, 0, 0);
+    crc(&rt, 159, 1);
+    crc(&rt, 159, 2);
+    crc(&rt, 0, 128);
+    print_mended(&rt, each_remainder());
+    print_tally(&rt, each_three());
+    overlap(&rt, 20, 5);
+    overlap(&rt, 21, 5);
+    overlap(&rt, 25, 5);
+    overlap(&rt, 18, 5);
+    overlap(&rt, 19, 5);
+    overlap(&rt, 24, 5);
+    rates(&rt);
+    text(&rt, b"table 2\n");
+    line_places(&rt);
+    text(&rt, b"a frame of audio [20] with data [6]\n");
+    picture(&rt, modes::with_lsd(modes::with_audio(modes::off(), 20), 6));
 }

@@ -1,16 +1,18 @@
 // Runs the frames: H.221's published bit layouts, read out of written blocks, and every audio value with every data value, written
 // and sorted back. What it prints is held to the file `stdout`, whose layouts are those of source document 001.
+#![tactic(auto)]
+
 use frame::Header;
-use libc::STDOUT_FILENO;
 use modes::{Mode, Owner};
 use numbers::BlockNumber;
 
-fn text(s: &[u8]) {
-    io::write_all(STDOUT_FILENO, s);
+// What cannot be written is not told: all that is written is compared with the file `stdout`.
+fn text(rt: &impl Print, s: &[u8]) {
+    let _ = rt.write_all(s);
 }
 
-fn decimal(n: u64) {
-    io::print_decimal(STDOUT_FILENO, n);
+fn decimal(rt: &impl Print, n: u64) {
+    let _ = rt.print(n);
 }
 
 fn header() -> Header {
@@ -75,7 +77,7 @@ fn with_plane(mode: Mode, at: usize, place: usize, k: usize) -> u64 {
 fn position(mode: Mode, at: usize, place: usize) -> u64 {
     let mut sum: u64 = 0;
     for k in 0..11 {
-        sum = std::num::wrapping_add_u64(sum, with_plane(mode, at, place, k));
+        sum = sum.wrapping_add(with_plane(mode, at, place, k));
     }
     sum
 }
@@ -88,50 +90,45 @@ enum Label {
     CodeWord,
 }
 
-fn print_label(label: Label, n: u64) {
-    let k = std::num::wrapping_sub_u64(n, 1);
+fn print_label(rt: &impl Print, label: Label, n: u64) {
+    let k = n.wrapping_sub(1);
     match label {
-        Label::FromOne => decimal(n),
-        Label::FromZero => decimal(k),
+        Label::FromOne => decimal(rt, n),
+        Label::FromZero => decimal(rt, k),
         Label::CodeWord => {
-            decimal(k % 40 / 10);
-            decimal(9 - k % 10);
+            decimal(rt, k % 40 / 10);
+            decimal(rt, 9 - k % 10);
         }
     }
 }
 
-fn print_place(mode: Mode, label: Label, at: usize, place: usize) {
+fn print_place(rt: &impl Print, mode: Mode, label: Label, at: usize, place: usize) {
     let n = position(mode, at, place);
     if n == 0 {
-        text(b" -");
+        text(rt, b" -");
         return;
     }
     if n == 2047 {
-        text(b" -");
+        text(rt, b" -");
         return;
     }
-    text(b" ");
-    print_label(label, n);
+    text(rt, b" ");
+    print_label(rt, label, n);
 }
 
 // Octet n of a block, counted from 1.
-fn print_octet(mode: Mode, label: Label, n: u8) {
-    text(b"octet ");
-    decimal(n as u64);
+fn print_octet(rt: &impl Print, mode: Mode, label: Label, n: u8) {
+    text(rt, b"octet ");
+    decimal(rt, n as u64);
     for place in 1..9 {
-        print_place(
-            mode,
-            label,
-            std::num::wrapping_sub_usize(n as usize, 1),
-            place,
-        );
+        print_place(rt, mode, label, (n as usize).wrapping_sub(1), place);
     }
-    text(b"\n");
+    text(rt, b"\n");
 }
 
-fn print_octets(mode: Mode, label: Label, octets: &[u8]) {
+fn print_octets(rt: &impl Print, mode: Mode, label: Label, octets: &[u8]) {
     for i in 0..octets.len() {
-        print_octet(mode, label, octets[i]);
+        print_octet(rt, mode, label, octets[i]);
     }
 }
 
@@ -143,36 +140,57 @@ fn data_mode(lsd: u8) -> Mode {
     modes::with_lsd(modes::off(), lsd)
 }
 
-fn data_layouts() {
-    text(b"figure 5a: 14.4 kbit/s data\n");
+fn data_layouts(rt: &impl Print) {
+    text(rt, b"figure 5a: 14.4 kbit/s data\n");
     print_octets(
+        rt,
         data_mode(7),
         Label::FromOne,
         &[1, 2, 8, 9, 10, 16, 17, 18, 80],
     );
-    text(b"figure 5b: 56 kbit/s data\n");
-    print_octets(data_mode(13), Label::FromOne, &[1, 8, 9, 16, 17, 18, 80]);
-    text(b"figure 5c: 62.4 kbit/s data\n");
+    text(rt, b"figure 5b: 56 kbit/s data\n");
     print_octets(
+        rt,
+        data_mode(13),
+        Label::FromOne,
+        &[1, 8, 9, 16, 17, 18, 80],
+    );
+    text(rt, b"figure 5c: 62.4 kbit/s data\n");
+    print_octets(
+        rt,
         data_mode(14),
         Label::FromOne,
         &[1, 8, 9, 16, 17, 18, 19, 80],
     );
-    text(b"figure 6: 62.4 kbit/s\n");
-    print_octets(data_mode(14), Label::FromOne, &[1, 2, 16, 17, 79, 80]);
+    text(rt, b"figure 6: 62.4 kbit/s\n");
+    print_octets(rt, data_mode(14), Label::FromOne, &[1, 2, 16, 17, 79, 80]);
 }
 
-fn voice_layouts() {
-    text(b"figure 5d-2: G.728 audio, code word and bit\n");
+fn voice_layouts(rt: &impl Print) {
+    text(rt, b"figure 5d-2: G.728 audio, code word and bit\n");
     print_octets(
+        rt,
         voice_mode(29),
         Label::CodeWord,
         &[1, 2, 3, 4, 5, 6, 7, 10, 11, 15, 16, 20, 21, 22, 79, 80],
     );
-    text(b"figure 5d-3: G.729 audio\n");
-    print_octets(voice_mode(11), Label::FromZero, &[1, 2, 3, 4, 5, 79, 80]);
-    text(b"figure 5d-5: G.722.1 audio at 32 kbit/s, both frames\n");
-    print_octets(voice_mode(27), Label::FromOne, &[1, 2, 3, 4, 80, 81, 160]);
+    text(rt, b"figure 5d-3: G.729 audio\n");
+    print_octets(
+        rt,
+        voice_mode(11),
+        Label::FromZero,
+        &[1, 2, 3, 4, 5, 79, 80],
+    );
+    text(
+        rt,
+        b"figure 5d-5: G.722.1 audio at 32 kbit/s, both frames\n",
+    );
+    print_octets(
+        rt,
+        voice_mode(27),
+        Label::FromOne,
+        &[1, 2, 3, 4, 80, 81, 160],
+    );
 }
 
 // Octets that are not alike.
@@ -250,13 +268,13 @@ fn tallied(t: Tally, mode: Mode, mute: bool) -> Tally {
     }
     if comes_back(mode, mute) {
         return Tally {
-            right: std::num::wrapping_add_u64(t.right, 1),
+            right: t.right.wrapping_add(1),
             wrong: t.wrong,
         };
     }
     Tally {
         right: t.right,
-        wrong: std::num::wrapping_add_u64(t.wrong, 1),
+        wrong: t.wrong.wrapping_add(1),
     }
 }
 
@@ -276,19 +294,19 @@ fn each_mode(mute: bool) -> Tally {
     next
 }
 
-fn print_tally(t: Tally) {
-    text(b" came back: ");
-    decimal(t.right);
-    text(b", wrong: ");
-    decimal(t.wrong);
-    text(b"\n");
+fn print_tally(rt: &impl Print, t: Tally) {
+    text(rt, b" came back: ");
+    decimal(rt, t.right);
+    text(rt, b", wrong: ");
+    decimal(rt, t.wrong);
+    text(rt, b"\n");
 }
 
-fn main() {
-    data_layouts();
-    voice_layouts();
-    text(b"open modes that");
-    print_tally(each_mode(false));
-    text(b"muted modes that");
-    print_tally(each_mode(true));
+fn main(rt: HostRuntime) {
+    data_layouts(&rt);
+    voice_layouts(&rt);
+    text(&rt, b"open modes that");
+    print_tally(&rt, each_mode(false));
+    text(&rt, b"muted modes that");
+    print_tally(&rt, each_mode(true));
 }

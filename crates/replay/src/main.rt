@@ -1,13 +1,15 @@
 // Reads a collection of recordings, each by a fresh reader, and then makes calls that every refusal number of a reader answers. What it
 // prints is held to the file `stdout`, which the model in Rust writes from the same collection, the file `stdin`.
+#![tactic(auto)]
+
 ghost use Rattle.std.specs.Prelude.{◌≤◌, length};
 
-use libc::{STDERR_FILENO, STDIN_FILENO, STDOUT_FILENO};
 use modes::Mode;
 use numbers::BlockNumber;
 use reader::Reader;
 use reading::{Answer, Outcome};
 use slots::Slot;
+use std::io::Read;
 use track::{Report, Standing, Verdict};
 use words::Reading;
 
@@ -43,12 +45,13 @@ struct Turn {
     state: Reader,
 }
 
-fn text(s: &[u8]) {
-    io::write_all(STDOUT_FILENO, s);
+// What cannot be written is not told: all that is written is compared with the file `stdout`.
+fn text(rt: &impl Print, s: &[u8]) {
+    let _ = rt.write_all(s);
 }
 
-fn decimal(n: u64) {
-    io::print_decimal(STDOUT_FILENO, n);
+fn decimal(rt: &impl Print, n: u64) {
+    let _ = rt.print(n);
 }
 
 fn digit(d: u8) -> u8 {
@@ -56,21 +59,21 @@ fn digit(d: u8) -> u8 {
     if low < 10 { 48 + low } else { 55 + low }
 }
 
-fn hex(x: u8) {
+fn hex(rt: &impl Print, x: u8) {
     let digits = [digit(x / 16), digit(x)];
-    text(&digits);
+    text(rt, &digits);
 }
 
 // A name, and a number after it.
-fn named(name: &[u8], n: u8) {
-    text(name);
-    decimal(n as u64);
+fn named(rt: &impl Print, name: &[u8], n: u8) {
+    text(rt, name);
+    decimal(rt, n as u64);
 }
 
 // A name, and a code after it.
-fn coded(name: &[u8], code: u8) {
-    text(name);
-    hex(code);
+fn coded(rt: &impl Print, name: &[u8], code: u8) {
+    text(rt, name);
+    hex(rt, code);
 }
 
 // How many octets a stream has up to its last one that is not zero.
@@ -87,118 +90,118 @@ fn used(octets: &[u8]) -> usize
     end
 }
 
-fn print_octets(octets: &[u8]) {
+fn print_octets(rt: &impl Print, octets: &[u8]) {
     for i in 0..octets.len() {
-        hex(octets[i]);
+        hex(rt, octets[i]);
     }
 }
 
 // A stream without its trailing zeros.
-fn print_stream(name: &[u8], octets: &[u8]) {
+fn print_stream(rt: &impl Print, name: &[u8], octets: &[u8]) {
     let end = used(octets);
-    text(name);
+    text(rt, name);
     if end == 0 {
-        text(b"-");
+        text(rt, b"-");
     }
-    print_octets(&octets[..end]);
-    text(b"\n");
+    print_octets(rt, &octets[..end]);
+    text(rt, b"\n");
 }
 
-fn print_standing(standing: Standing) {
+fn print_standing(rt: &impl Print, standing: Standing) {
     match standing {
-        Standing::Waiting => text(b"waiting"),
-        Standing::Read => text(b"read"),
-        Standing::Lost => text(b"lost"),
+        Standing::Waiting => text(rt, b"waiting"),
+        Standing::Read => text(rt, b"read"),
+        Standing::Lost => text(rt, b"lost"),
     }
 }
 
-fn print_verdict(verdict: Verdict) {
+fn print_verdict(rt: &impl Print, verdict: Verdict) {
     match verdict {
-        Verdict::None => text(b" none"),
-        Verdict::Good => text(b" good"),
-        Verdict::Bad => text(b" bad"),
+        Verdict::None => text(rt, b" none"),
+        Verdict::Good => text(rt, b" good"),
+        Verdict::Bad => text(rt, b" bad"),
     }
 }
 
-fn print_reading(reading: Reading) {
+fn print_reading(rt: &impl Print, reading: Reading) {
     match reading {
-        Reading::Mended(code) => coded(b" mended ", code),
-        Reading::Item(code) => coded(b" item ", code),
-        Reading::MessageWord(code) => coded(b" message ", code),
-        Reading::ForbiddenItem(code) => coded(b" forbidden ", code),
-        Reading::NotFollowed(code) => coded(b" not followed ", code),
-        Reading::Unreadable => text(b" unreadable"),
-        Reading::NotRead => text(b" not read"),
+        Reading::Mended(code) => coded(rt, b" mended ", code),
+        Reading::Item(code) => coded(rt, b" item ", code),
+        Reading::MessageWord(code) => coded(rt, b" message ", code),
+        Reading::ForbiddenItem(code) => coded(rt, b" forbidden ", code),
+        Reading::NotFollowed(code) => coded(rt, b" not followed ", code),
+        Reading::Unreadable => text(rt, b" unreadable"),
+        Reading::NotRead => text(rt, b" not read"),
     }
 }
 
-fn print_report(report: Report) {
+fn print_report(rt: &impl Print, report: Report) {
     let standing = report.standing;
     let verdict = report.verdict;
     let reading = report.reading;
-    print_standing(standing);
-    print_verdict(verdict);
-    print_reading(reading);
+    print_standing(rt, standing);
+    print_verdict(rt, verdict);
+    print_reading(rt, reading);
 }
 
-fn print_answer(answer: Answer) {
+fn print_answer(rt: &impl Print, answer: Answer) {
     match answer {
-        Answer::Block(report) => print_report(report),
-        Answer::Refused(why) => named(b"refused ", refusals::number_of(why)),
+        Answer::Block(report) => print_report(rt, report),
+        Answer::Refused(why) => named(rt, b"refused ", refusals::number_of(why)),
     }
 }
 
-fn print_mode(name: &[u8], mode: Mode) {
-    named(name, mode.audio);
-    named(b" ", mode.lsd);
+fn print_mode(rt: &impl Print, name: &[u8], mode: Mode) {
+    named(rt, name, mode.audio);
+    named(rt, b" ", mode.lsd);
 }
 
-fn print_state(s: Reader) {
+fn print_state(rt: &impl Print, s: Reader) {
     let mode = s.mode;
     let kept = s.kept;
     let block = s.block;
     let slot = s.slot;
-    print_mode(b"  mode ", mode);
-    print_mode(b" kept ", kept);
-    named(b" wrong ", s.wrong);
-    named(b" block ", block.0);
-    named(b" firsts ", s.firsts);
-    named(b" misses ", s.misses);
-    named(b" due ", slot.kind);
-    named(b" ", slot.words);
-    named(b" before ", s.before);
-    named(b" remainder ", s.remainder);
-    text(b"\n");
+    print_mode(rt, b"  mode ", mode);
+    print_mode(rt, b" kept ", kept);
+    named(rt, b" wrong ", s.wrong);
+    named(rt, b" block ", block.0);
+    named(rt, b" firsts ", s.firsts);
+    named(rt, b" misses ", s.misses);
+    named(rt, b" due ", slot.kind);
+    named(rt, b" ", slot.words);
+    named(rt, b" before ", s.before);
+    named(rt, b" remainder ", s.remainder);
+    text(rt, b"\n");
 }
 
 // Block k of a recording, printed with the state that it leaves.
-fn block_read(given: Reader, k: u64, line: &[u8; buffers::LINE]) -> Reader {
+fn block_read(rt: &impl Print, given: Reader, k: u64, line: &[u8; buffers::LINE]) -> Reader {
     let mut voice = [0u8; buffers::VOICE];
     let mut lsd = [0u8; buffers::LSD];
     let outcome = reading::read(given, line, &mut voice, &mut lsd);
     let answer = outcome.answer;
     let next = outcome.state;
-    decimal(k);
-    text(b" ");
-    print_answer(answer);
-    text(b"\n");
-    print_stream(b"  voice ", &voice);
-    print_stream(b"  data ", &lsd);
-    print_state(next);
+    decimal(rt, k);
+    text(rt, b" ");
+    print_answer(rt, answer);
+    text(rt, b"\n");
+    print_stream(rt, b"  voice ", &voice);
+    print_stream(rt, b"  data ", &lsd);
+    print_state(rt, next);
     next
 }
 
 // Takes block k of a recording off the collection and reads it.
-fn next_block(given: Reader, k: u64) -> Turn {
+fn next_block(rt: &impl Print, input: &mut impl Read, given: Reader, k: u64) -> Turn {
     let mut line = [0u8; buffers::LINE];
-    let got = io::read_full(STDIN_FILENO, &mut line);
-    if got != buffers::LINE {
+    let got = intake::fill(input, &mut line);
+    if got.octets != buffers::LINE {
         return Turn {
             whole: false,
             state: given,
         };
     }
-    let next = block_read(given, k, &line);
+    let next = block_read(rt, given, k, &line);
     Turn {
         whole: true,
         state: next,
@@ -206,10 +209,10 @@ fn next_block(given: Reader, k: u64) -> Turn {
 }
 
 // Hands every block to one reader, also after a loss: nothing is searched for. Whether all of the blocks were there.
-fn blocks_read(blocks: u8) -> bool {
+fn blocks_read(rt: &impl Print, input: &mut impl Read, blocks: u8) -> bool {
     let mut state = reader::fresh();
     for k in 0..blocks {
-        let turn = next_block(state, k as u64 + 1);
+        let turn = next_block(rt, input, state, k as u64 + 1);
         if !turn.whole {
             return false;
         }
@@ -219,40 +222,40 @@ fn blocks_read(blocks: u8) -> bool {
     true
 }
 
-fn recording_read(number: u64, blocks: u8) -> Stage {
+fn recording_read(rt: &impl Print, input: &mut impl Read, number: u64, blocks: u8) -> Stage {
     if blocks == 0 {
         return Stage::Short;
     }
-    text(b"recording ");
-    decimal(number);
-    named(b": ", blocks);
-    text(b" blocks\n");
-    if blocks_read(blocks) {
+    text(rt, b"recording ");
+    decimal(rt, number);
+    named(rt, b": ", blocks);
+    text(rt, b" blocks\n");
+    if blocks_read(rt, input, blocks) {
         return Stage::More;
     }
     Stage::Short
 }
 
-fn blocks_ahead() -> Ahead {
+fn blocks_ahead(input: &mut impl Read) -> Ahead {
     let mut count = [0u8; 1];
-    let got = io::read_full(STDIN_FILENO, &mut count);
-    if got == 0 {
+    let got = intake::fill(input, &mut count);
+    if got.octets == 0 {
         return Ahead::End;
     }
     Ahead::Blocks(count[0])
 }
 
-fn next_recording(number: u64) -> Stage {
-    match blocks_ahead() {
-        Ahead::Blocks(blocks) => recording_read(number, blocks),
+fn next_recording(rt: &impl Print, input: &mut impl Read, number: u64) -> Stage {
+    match blocks_ahead(input) {
+        Ahead::Blocks(blocks) => recording_read(rt, input, number, blocks),
         Ahead::End => Stage::Whole,
     }
 }
 
 // Reads the collection to its end. False where that is within a recording.
-fn collection_read() -> bool {
+fn collection_read(rt: &impl Print, input: &mut impl Read) -> bool {
     for number in 1..MOST {
-        let stage = next_recording(number);
+        let stage = next_recording(rt, input, number);
         match stage {
             Stage::More => {}
             Stage::Whole => {
@@ -355,16 +358,16 @@ fn lent(given: Reader, call: u8, line: &[u8], voice: &mut [u8], lsd: &mut [u8]) 
     )
 }
 
-fn print_touch(untouched: bool) {
+fn print_touch(rt: &impl Print, untouched: bool) {
     if untouched {
-        text(b" untouched\n");
+        text(rt, b" untouched\n");
         return;
     }
-    text(b" touched\n");
+    text(rt, b" touched\n");
 }
 
 // One refused call, and whether it left the state and the buffers as they were.
-fn refused(call: u8) {
+fn refused(rt: &impl Print, call: u8) {
     let line = [FILLED; buffers::LINE];
     let mut voice = [FILLED; buffers::VOICE];
     let mut lsd = [FILLED; buffers::LSD];
@@ -372,24 +375,26 @@ fn refused(call: u8) {
     let outcome = lent(given, call, &line, &mut voice, &mut lsd);
     let answer = outcome.answer;
     let state = outcome.state;
-    print_answer(answer);
-    print_touch(same_state(given, state) & still_filled(&voice) & still_filled(&lsd));
+    print_answer(rt, answer);
+    print_touch(
+        rt,
+        same_state(given, state) & still_filled(&voice) & still_filled(&lsd),
+    );
 }
 
-fn all_refused() {
+fn all_refused(rt: &impl Print) {
     for i in 0..6 {
-        refused(REFUSED[i]);
+        refused(rt, REFUSED[i]);
     }
 }
 
 // A program has no exit status to set, so only the message tells of a collection that is not whole.
-fn main() {
-    if collection_read() {
-        all_refused();
+fn main(rt: HostRuntime) {
+    if collection_read(&rt, &mut rt.stdin()) {
+        all_refused(&rt);
         return;
     }
-    io::write_all(
-        STDERR_FILENO,
-        b"reading: the collection ends within a recording\n",
-    );
+    let _ = rt
+        .stderr()
+        .write_all(b"reading: the collection ends within a recording\n");
 }

@@ -1,9 +1,10 @@
 // Runs one session of sending calls from a fresh state, with every rule of sending and every refusal number that a sending call can
 // give. What it prints is held to the file `stdout`, which the model in Rust writes from the same script.
+#![tactic(auto)]
+
 ghost use Rattle.std.specs.Prelude.{◌≤◌};
 
 use control::{Answer, Call};
-use libc::STDOUT_FILENO;
 use numbers::BlockNumber;
 use sender::Sender;
 use sending::Outcome;
@@ -37,12 +38,13 @@ enum Stream {
     Data,
 }
 
-fn text(s: &[u8]) {
-    io::write_all(STDOUT_FILENO, s);
+// What cannot be written is not told: all that is written is compared with the file `stdout`.
+fn text(rt: &impl Print, s: &[u8]) {
+    let _ = rt.write_all(s);
 }
 
-fn decimal(n: u64) {
-    io::print_decimal(STDOUT_FILENO, n);
+fn decimal(rt: &impl Print, n: u64) {
+    let _ = rt.print(n);
 }
 
 fn digit(d: u8) -> u8 {
@@ -50,16 +52,16 @@ fn digit(d: u8) -> u8 {
     if low < 10 { 48 + low } else { 55 + low }
 }
 
-fn hex(x: u8) {
+fn hex(rt: &impl Print, x: u8) {
     let digits = [digit(x / 16), digit(x)];
-    text(&digits);
+    text(rt, &digits);
 }
 
-fn print_line(line: &[u8; buffers::LINE]) {
+fn print_line(rt: &impl Print, line: &[u8; buffers::LINE]) {
     for i in 0..buffers::LINE {
-        hex(line[i]);
+        hex(rt, line[i]);
     }
-    text(b"\n");
+    text(rt, b"\n");
 }
 
 // Octet i of a stream in call k; no octet and no call is numbered past 255.
@@ -108,46 +110,46 @@ fn flag(on: bool, letter: u8) -> u8 {
     if on { letter } else { b'-' }
 }
 
-fn print_call(k: usize, call: Call) {
+fn print_call(rt: &impl Print, k: usize, call: Call) {
     let flags = [
         flag(call.mute, b'm'),
         flag(call.a, b'a'),
         flag(call.e, b'e'),
         flag(call.t, b't'),
     ];
-    decimal(k as u64);
-    text(b" ");
-    hex(call.code);
-    text(b" ");
-    text(&flags);
+    decimal(rt, k as u64);
+    text(rt, b" ");
+    hex(rt, call.code);
+    text(rt, b" ");
+    text(rt, &flags);
 }
 
-fn print_answer(answer: Answer) {
+fn print_answer(rt: &impl Print, answer: Answer) {
     match answer {
-        Answer::Sent => text(b" sent"),
-        Answer::Held => text(b" held"),
+        Answer::Sent => text(rt, b" sent"),
+        Answer::Held => text(rt, b" held"),
         Answer::Refused(why) => {
-            text(b" refused ");
-            decimal(refusals::number_of(why) as u64);
+            text(rt, b" refused ");
+            decimal(rt, refusals::number_of(why) as u64);
         }
     }
 }
 
-fn print_state(s: Sender) {
+fn print_state(rt: &impl Print, s: Sender) {
     let block = s.block;
-    text(b": chosen ");
-    decimal(s.chosen as u64);
-    text(b" in force ");
-    decimal(s.mode.audio as u64);
-    text(b" data ");
-    decimal(s.mode.lsd as u64);
-    text(b" block ");
-    decimal(block.0 as u64);
-    text(b" due ");
-    decimal(s.due as u64);
-    text(b" remainder ");
-    decimal(s.remainder as u64);
-    text(b"\n");
+    text(rt, b": chosen ");
+    decimal(rt, s.chosen as u64);
+    text(rt, b" in force ");
+    decimal(rt, s.mode.audio as u64);
+    text(rt, b" data ");
+    decimal(rt, s.mode.lsd as u64);
+    text(rt, b" block ");
+    decimal(rt, block.0 as u64);
+    text(rt, b" due ");
+    decimal(rt, s.due as u64);
+    text(rt, b" remainder ");
+    decimal(rt, s.remainder as u64);
+    text(rt, b"\n");
 }
 
 fn accepted(answer: Answer) -> bool {
@@ -185,7 +187,7 @@ fn lent(given: Sender, call: Call, way: u8, voice: &[u8], lsd: &[u8], line: &mut
 }
 
 // Call k, printed with the state that it gives back, and with its block where it wrote one.
-fn made(given: Sender, k: usize, code: u8, way: u8) -> Sender {
+fn made(rt: &impl Print, given: Sender, k: usize, code: u8, way: u8) -> Sender {
     let mut line = [0u8; buffers::LINE];
     let mut voice = [0u8; buffers::VOICE];
     let mut lsd = [0u8; buffers::LSD];
@@ -195,29 +197,29 @@ fn made(given: Sender, k: usize, code: u8, way: u8) -> Sender {
     let outcome = lent(given, call, way, &voice, &lsd, &mut line);
     let answer = outcome.answer;
     let next = outcome.state;
-    print_call(k, call);
-    print_answer(answer);
-    print_state(next);
+    print_call(rt, k, call);
+    print_answer(rt, answer);
+    print_state(rt, next);
     if accepted(answer) {
-        print_line(&line);
+        print_line(rt, &line);
     }
     next
 }
 
 // The state after call k. A forged state is for one call alone: the session goes on with its own.
-fn after(s: Sender, k: usize, row: u16) -> Sender {
+fn after(rt: &impl Print, s: Sender, k: usize, row: u16) -> Sender {
     let code = (row / 256) as u8;
     let way = (row % 256) as u8;
     if has(way, 7) {
-        made(forged(s), k, code, way);
+        made(rt, forged(s), k, code, way);
         return s;
     }
-    made(s, k, code, way)
+    made(rt, s, k, code, way)
 }
 
-fn main() {
+fn main(rt: HostRuntime) {
     let mut state = sender::fresh();
     for i in 0..52 {
-        state = after(state, i + 1, SCRIPT[i]);
+        state = after(&rt, state, i + 1, SCRIPT[i]);
     }
 }

@@ -1,10 +1,13 @@
 // Frames voice from standard input into a recording on standard output. The arguments are calls, made one after the other from a fresh
 // state; each that is accepted gives a block of 160 octets, and standard error tells what became of each. Where a word is no call,
 // nothing is sent.
+#![tactic(auto)]
+
 use control::{Answer, Call};
-use libc::{STDERR_FILENO, STDOUT_FILENO};
 use modes::{Mode, Owner};
 use sender::Sender;
+use std::io::Input;
+use std::rt::Env;
 
 // How far a word is read as a call.
 #[derive(Clone, Copy)]
@@ -49,33 +52,36 @@ struct Voice {
     failed: bool,
 }
 
-fn tell(s: &[u8]) {
-    io::write_all(STDERR_FILENO, s);
+// What cannot be told to standard error can be told nowhere.
+fn tell(err: &impl Print, s: &[u8]) {
+    let _ = err.write_all(s);
 }
 
-fn tell_notation() {
+fn tell_notation(err: &impl Print) {
     tell(
+        err,
         b"A call is HH, HH:FLAGS, HH*N or HH:FLAGS*N: the offered code in hex, letters out of m (mute), a, e, t,\n",
     );
     tell(
+        err,
         b"and a count from 1 to 999. Voice is taken from standard input; the recording goes to standard output.\n",
     );
 }
 
 // Argument i, named as far as it has room here.
-fn tell_wrong(i: usize) {
+fn tell_wrong(rt: &impl Env, err: &impl Print, i: usize) {
     let mut octets = [0u8; 64];
-    let n = os::arg(i, &mut octets);
-    let whole = os::errno() == 0;
-    tell(b"speak: \"");
-    if whole {
-        tell(&octets[..n]);
-    } else {
-        tell(&octets);
-        tell(b"...");
+    let whole = rt.arg(i, &mut octets);
+    tell(err, b"speak: \"");
+    match whole {
+        Ok(n) => tell(err, &octets[..n]),
+        Err(_) => {
+            tell(err, &octets);
+            tell(err, b"...");
+        }
     }
-    tell(b"\" is no call\n");
-    tell_notation();
+    tell(err, b"\" is no call\n");
+    tell_notation(err);
 }
 
 fn begun() -> Word {
@@ -208,17 +214,19 @@ fn read_word(octets: &[u8]) -> Word {
 }
 
 // Argument i. One that has no room here counts as empty, which is no call.
-fn word_at(i: usize) -> Word {
+fn word_at(rt: &impl Env, i: usize) -> Word {
     let mut octets = [0u8; 64];
-    let n = os::arg(i, &mut octets);
-    read_word(&octets[..n])
+    match rt.arg(i, &mut octets) {
+        Ok(n) => read_word(&octets[..n]),
+        Err(_) => begun(),
+    }
 }
 
 // Whether every argument is a call; the first that is none is told.
-fn all_calls(count: usize) -> bool {
+fn all_calls(rt: &impl Env, err: &impl Print, count: usize) -> bool {
     for i in 1..count {
-        if !is_call(word_at(i)) {
-            tell_wrong(i);
+        if !is_call(word_at(rt, i)) {
+            tell_wrong(rt, err, i);
             return false;
         }
     }
@@ -226,13 +234,13 @@ fn all_calls(count: usize) -> bool {
 }
 
 // The voice of the next block: 20 octets for each bit that the audio in force holds, from standard input. What is missing is zero.
-fn voice_under(mode: Mode, mute: bool) -> Voice {
+fn voice_under(rt: &impl Input, mode: Mode, mute: bool) -> Voice {
     let mut voice = [0u8; buffers::VOICE];
     let octets = (modes::bits_per_frame(mode, Owner::Voice) / 4) as usize;
     let mut failed = false;
     if !mute {
         if octets <= buffers::VOICE {
-            let got = intake::fill(&mut voice[..octets]);
+            let got = intake::fill(&mut rt.reader(), &mut voice[..octets]);
             failed = got.failed;
         }
     }
@@ -269,7 +277,7 @@ fn put_answer(line: &mut [u8], at: usize, answer: Answer, block: u8, went: u8) -
 }
 
 // The line of a call that the session made, written at once, so that it stays whole beside those of another program.
-fn tell_call(session: Session, code: u8, answer: Answer, went: u8) {
+fn tell_call(err: &impl Print, session: Session, code: u8, answer: Answer, went: u8) {
     let mut line = [0u8; 64];
     let block = session.state.block;
     let mut at = text::put_all(&mut line, 0, b"call ");
@@ -279,7 +287,7 @@ fn tell_call(session: Session, code: u8, answer: Answer, went: u8) {
     at = put_answer(&mut line, at, answer, block.0, went);
     at = text::put(&mut line, at, b'\n');
     if at <= 64 {
-        tell(&line[..at]);
+        tell(err, &line[..at]);
     }
 }
 
@@ -287,40 +295,46 @@ fn tell_call(session: Session, code: u8, answer: Answer, went: u8) {
 fn followed(session: Session, state: Sender, course: Course) -> Session {
     Session {
         state: state,
-        number: std::num::wrapping_add_usize(session.number, 1),
+        number: session.number.wrapping_add(1),
         course: course,
     }
 }
 
 // A call that is accepted, with its voice: its block is written.
-fn framed(session: Session, call: Call, voice: &[u8; buffers::VOICE]) -> Session {
+fn framed(
+    out: &impl Print,
+    err: &impl Print,
+    session: Session,
+    call: Call,
+    voice: &[u8; buffers::VOICE],
+) -> Session {
     let mut line = [0u8; buffers::LINE];
     let lsd = [0u8; buffers::LSD];
     let state = session.state;
     let outcome = sending::send(state, call, voice, &lsd, &mut line);
     let answer = outcome.answer;
     let next = outcome.state;
-    if io::write_all(STDOUT_FILENO, &line) {
-        tell_call(session, call.code, answer, next.mode.audio);
+    if out.write_all(&line).is_ok() {
+        tell_call(err, session, call.code, answer, next.mode.audio);
         return followed(session, next, Course::Open);
     }
     followed(session, next, Course::Unwritten)
 }
 
 // A call that is accepted. Where its voice cannot be read, nothing is written.
-fn accepted(session: Session, call: Call) -> Session {
+fn accepted(rt: &(impl Input + Print), err: &impl Print, session: Session, call: Call) -> Session {
     let state = session.state;
     let mode = state.mode;
-    let voice = voice_under(mode, call.mute);
+    let voice = voice_under(rt, mode, call.mute);
     if voice.failed {
         return followed(session, state, Course::Unread);
     }
     let octets = voice.octets;
-    framed(session, call, &octets)
+    framed(rt, err, session, call, &octets)
 }
 
 // One call. It is tried with silence first, since a refused one takes no voice.
-fn made(session: Session, call: Call) -> Session {
+fn made(rt: &(impl Input + Print), err: &impl Print, session: Session, call: Call) -> Session {
     let mut line = [0u8; buffers::LINE];
     let silence = [0u8; buffers::VOICE];
     let lsd = [0u8; buffers::LSD];
@@ -328,36 +342,42 @@ fn made(session: Session, call: Call) -> Session {
     let trial = sending::send(state, call, &silence, &lsd, &mut line);
     let answer = trial.answer;
     match answer {
-        Answer::Sent => accepted(session, call),
-        Answer::Held => accepted(session, call),
+        Answer::Sent => accepted(rt, err, session, call),
+        Answer::Held => accepted(rt, err, session, call),
         Answer::Refused(_) => {
-            tell_call(session, call.code, answer, 0);
+            tell_call(err, session, call.code, answer, 0);
             followed(session, state, Course::Open)
         }
     }
 }
 
 // One call, where the sending goes on.
-fn continued(session: Session, call: Call) -> Session {
+fn continued(rt: &(impl Input + Print), err: &impl Print, session: Session, call: Call) -> Session {
     let course = session.course;
     match course {
-        Course::Open => made(session, call),
+        Course::Open => made(rt, err, session, call),
         Course::Unread => session,
         Course::Unwritten => session,
     }
 }
 
 // A call, repeated as its word says.
-fn repeated(found: Session, call: Call, times: u16) -> Session {
+fn repeated(
+    rt: &(impl Input + Print),
+    err: &impl Print,
+    found: Session,
+    call: Call,
+    times: u16,
+) -> Session {
     let mut session = found;
     for i in 0..times {
-        session = continued(session, call);
+        session = continued(rt, err, session, call);
     }
     session
 }
 
 // Makes every call of the arguments. The course that it took.
-fn all_sent(count: usize) -> Course {
+fn all_sent(rt: &(impl Env + Input + Print), err: &impl Print, count: usize) -> Course {
     let fresh = sender::fresh();
     let mut session = Session {
         state: fresh,
@@ -365,34 +385,35 @@ fn all_sent(count: usize) -> Course {
         course: Course::Open,
     };
     for i in 1..count {
-        let word = word_at(i);
+        let word = word_at(rt, i);
         let call = word.call;
-        session = repeated(session, call, word.times);
+        session = repeated(rt, err, session, call, word.times);
     }
     session.course
 }
 
-fn tell_course(course: Course) {
+fn tell_course(err: &impl Print, course: Course) {
     match course {
         Course::Open => {}
-        Course::Unread => tell(b"speak: standard input cannot be read\n"),
-        Course::Unwritten => tell(b"speak: standard output cannot be written\n"),
+        Course::Unread => tell(err, b"speak: standard input cannot be read\n"),
+        Course::Unwritten => tell(err, b"speak: standard output cannot be written\n"),
     }
 }
 
-fn main() {
-    let count = os::arg_count();
+fn main(rt: HostRuntime) {
+    let err = rt.stderr();
+    let count = intake::arg_count(&rt);
     if count < 2 {
-        tell(b"speak: no call is given\n");
-        tell_notation();
+        tell(&err, b"speak: no call is given\n");
+        tell_notation(&err);
         return;
     }
-    if all_calls(count) {
+    if all_calls(&rt, &err, count) {
         // the first blocks may have no voice: a standard input that cannot be read is told before one of them is written
-        if !intake::is_open() {
-            tell_course(Course::Unread);
+        if !intake::is_open(&mut rt.reader()) {
+            tell_course(&err, Course::Unread);
             return;
         }
-        tell_course(all_sent(count));
+        tell_course(&err, all_sent(&rt, &err, count));
     }
 }
