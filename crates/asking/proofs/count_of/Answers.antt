@@ -8,8 +8,7 @@ use Rattle.modes.specs.declared.Owner.TheVariants.{Voice, Lsd}
 use Rattle.modes.proofs.OwnerLaws.{held_fit, bits_per_frame_is}
 use Rattle.table.proofs.TableLaws.{Fit}
 use borrow.Author.Rules.{rules}
-use Rattle.asking.proofs.count_of.Statement.{statement}
-use Rattle.asking.proofs.count_of.Tie as tie
+use Rattle.asking.proofs.count_of.Goals as goal
 
 few : (m : Mode) (o : Owner) → bits_per_frame (held_by m o) ≤ 640
 few m o =
@@ -17,14 +16,11 @@ few m o =
     let f : Fit p = held_fit m o in
     omega (arith, bits_per_frame_is p f, f.ends, f.closes)
 
-mul-t5 : tie.Need-overflow-mul-t5
-mul-t5 c = omega (arith, c.before.bits-per-frame.ensures, few c.before.before.args.mode Voice)
+pub overflow_mul-result : goal.overflow_mul-result
+overflow_mul-result c = omega (arith, c.bits_per_frame-voice.ensures, few c.args.mode Voice)
 
-mul-t7 : tie.Need-overflow-mul-t7
-mul-t7 c = omega (arith, c.bits-per-frame2.ensures, few c.before.before.args.mode Lsd)
+pub overflow_mul-result-2 : goal.overflow_mul-result-2
+overflow_mul-result-2 c = omega (arith, c.bits_per_frame-lsd.ensures, few c.args.mode Lsd)
 
-returns : tie.Need-returns
-returns c = rw (c.before.bits-per-frame.ensures, c.bits-per-frame2.ensures)
-
-pub count-of-spec : {M : Type 1} → statement M
-count-of-spec = tie.close (tie.spec (λ c κs. search rules) (λ c κs. search rules) mul-t5 mul-t7 returns)
+pub returns : goal.returns
+returns c = rw (c.bits_per_frame-voice.ensures, c.bits_per_frame-lsd.ensures)
