@@ -1,5 +1,7 @@
 // The reader's step: state and block in; the next state and the answer out; voice and data handed out into the lent buffers (document
 // 01, 'Reading a block' and 'Refusal numbers').
+#![tactic(auto)]
+
 ghost use Rattle.std.specs.Prelude.{◌≡◌, true, length};
 ghost use Rattle.buffers.specs.Buffers.{each, lengths};
 ghost use Rattle.buffers.specs.Lengths.{fitting};

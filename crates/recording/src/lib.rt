@@ -1,4 +1,6 @@
 // One step of a walk over a recording (document 01, 'Finding alignment' and 'Refusal numbers').
+#![tactic(auto)]
+
 ghost use Rattle.std.specs.Prelude.{◌≡◌, true, ◌≤◌, length};
 ghost use Rattle.buffers.specs.Buffers.{each};
 ghost use Rattle.search.specs.Finding.{search_of};
