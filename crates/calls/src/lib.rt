@@ -1,5 +1,7 @@
 // Each call of a card driver by value, in the numbers that cross to C: the state goes in and comes back beside the answer. `card` has these calls
 // over a lent state. No call asks anything of its numbers and lengths: each of them is answered.
+#![tactic(auto)]
+
 ghost use Rattle.std.specs.Prelude.{◌≡◌};
 ghost use Rattle.buffers.specs.Buffers.{each};
 ghost use Rattle.sending.specs.Step.{line_of};
