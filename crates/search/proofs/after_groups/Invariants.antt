@@ -1,11 +1,7 @@
 -- `search::after_groups` meets its contract. The loop's invariant: what was passed over holds no place that fits.
 use mathlib.Core.Path.{◌≡◌}
-use Prim.Native.Nat.{◌-◌}
 use Rattle.search.specs.Groups.{first_from}
 use Rattle.search.proofs.after_groups.Given as goal
 
 abbrev pub invariant-loop-k : goal.invariant-loop-k
 invariant-loop-k l = first_from l.at l.recording ≡ first_from l.start l.recording
-
-abbrev pub decreases-loop-k : goal.decreases-loop-k
-decreases-loop-k l = l.groups - l.k

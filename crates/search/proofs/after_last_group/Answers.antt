@@ -1,28 +1,13 @@
 -- `search::after_last_group` meets its contract: the places from the start on are among those that were tested.
-use mathlib.Core.Path.{◌≡◌, refl}
+use mathlib.Core.Path.{◌≡◌}
 use mathlib.Core.Bool.{true}
 use Prim.Native.Nat.{◌-◌}
 use native.Mathlib.Omega.{arith}
-use lib.ListN.{length, drop, length-drop}
+use lib.ListN.{length, drop}
 use Rattle.search.specs.Groups.{none_of}
 use Rattle.search.proofs.PlaceLaws.{lent-part}
 use Rattle.search.proofs.GroupLaws.{passed_to_the_end}
 use Rattle.search.proofs.after_last_group.Goals as goal
-
-pub returns-then-all-lt2216 : goal.returns-then-all-lt2216
-returns-then-all-lt2216 c = refl
-
-pub returns-then-start-last : goal.returns-then-start-last
-returns-then-start-last c = refl
-
-pub returns-then-last-start : goal.returns-then-last-start
-returns-then-last-start c = refl
-
-pub none_of_group-requires : goal.none_of_group-requires
-none_of_group-requires c = simp (lent-part, length-drop) (omega arith)
-
-pub returns-then-not-none_of_group : goal.returns-then-not-none_of_group
-returns-then-not-none_of_group c = refl
 
 pub returns : goal.returns
 returns c =

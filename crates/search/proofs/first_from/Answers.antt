@@ -1,5 +1,5 @@
 -- `search::first_from` meets its contract. The loop's invariant: the places passed do not fit, so that the answer is the first of those left.
-use mathlib.Core.Path.{◌≡◌, refl, sym, ◌∙◌}
+use mathlib.Core.Path.{◌≡◌, sym, ◌∙◌}
 use mathlib.Core.Bool.{cond}
 use Prim.Native.Nat.{◌+◌, ◌<◌}
 use native.Mathlib.Omega.{arith}
@@ -9,12 +9,6 @@ use Rattle.search.specs.declared.Found.TheVariants.{Place}
 use Rattle.search.proofs.PlaceLaws.{lent-part, first_none, first_step}
 use Rattle.search.proofs.first_from.Goals as goal
 
-pub loop-at-init : goal.loop-at-init
-loop-at-init c = refl
-
-pub slice_bounds-is_aligned-start : goal.slice_bounds-is_aligned-start
-slice_bounds-is_aligned-start c = omega arith
-
 pub returns-then-is_aligned : goal.returns-then-is_aligned
 returns-then-is_aligned c =
     let is-by-test : (let a = c.args in
@@ -23,12 +17,6 @@ returns-then-is_aligned c =
     let inside : c.loop-at.at < length recording = omega arith in
     rw (c.is_aligned.ensures, lent-part c.loop-at.at recording) (c.loop-at.invariant ∙ first_step c.loop-at.at recording inside) in
     sym (rw c.if-is_aligned.true at is-by-test)
-
-pub overflow_step-at : goal.overflow_step-at
-overflow_step-at c = omega arith
-
-pub loop-at-smaller : goal.loop-at-smaller
-loop-at-smaller c = omega arith
 
 pub loop-at-preserved : goal.loop-at-preserved
 loop-at-preserved c =

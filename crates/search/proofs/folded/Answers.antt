@@ -3,14 +3,10 @@ use mathlib.Core.Path.{refl}
 use Prim.Native.Nat.{ℕ, ◌+◌, ◌*◌}
 use native.Mathlib.Omega.{arith}
 use lib.ListN.{get_or, length-set}
-use borrow.Author.Rules.{rules}
 use Rattle.bits.specs.Bits.{sc_bit}
 use Rattle.search.specs.Groups.{EachBit}
 use Rattle.search.proofs.GroupLaws.{one_part_further, one_more_entry}
 use Rattle.search.proofs.folded.Goals as goal
-
-pub loop-i-init : goal.loop-i-init
-loop-i-init c = (omega arith, search rules, c.laid_over-bits.ensures)
 
 pub loop-i-preserved : goal.loop-i-preserved
 loop-i-preserved c =
@@ -23,8 +19,3 @@ loop-i-preserved c =
     (l.invariant.2 l.i (omega arith)) o.ensures.0 o.ensures.1 in
     let all = one_more_entry P l.bits (l.i + 256) o.result (omega arith) l.invariant.2 here in
     (omega arith, simp length-set l.invariant.1, λ j h. all j (omega arith))
-
-pub returns : goal.returns
-returns c = λ j h.
-    let l = c.loop-i in
-    l.invariant.2 j (omega arith)

@@ -8,9 +8,6 @@ use Rattle.bits.specs.Bits.{sc_bit}
 use Rattle.search.proofs.PlaneLaws.{one_below}
 use Rattle.search.proofs.folded_at.Goals as goal
 
-pub loop-k-init : goal.loop-k-init
-loop-k-init c = (omega arith, λ m h. absurd (omega arith))
-
 pub loop-k-preserved : goal.loop-k-preserved
 loop-k-preserved c =
     let l = c.loop-k in
@@ -21,9 +18,3 @@ loop-k-preserved c =
       one_below l.k l.bits c.followed-bits.result (λ m. sc (8 - (l.k + 1) + m)) (omega arith)
           (f.0 ∙ ap sc (omega arith)) f.1 (λ m h. l.invariant.1 m h ∙ ap sc (omega arith)),
     )
-
-pub returns : goal.returns
-returns c = λ k h.
-    let l = c.loop-k in
-    let a = c.args in
-    l.invariant.1 k (omega arith) ∙ ap (λ (j : ℕ). sc_bit (get_or a.part.now (256 * j + a.at) 0)) (omega arith)

@@ -7,6 +7,3 @@ use Rattle.search.proofs.folded_at.Given as goal
 
 abbrev pub invariant-loop-k : goal.invariant-loop-k
 invariant-loop-k l = (l.k ≤ 8) × ((m : ℕ) → m < l.k → odd (l.bits / 2 ^ m) ≡ sc_bit (get_or l.part (256 * (8 - l.k + m) + l.at) 0))
-
-abbrev pub decreases-loop-k : goal.decreases-loop-k
-decreases-loop-k l = 8 - l.k

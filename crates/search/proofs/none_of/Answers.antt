@@ -1,7 +1,6 @@
 -- `search::none_of` meets its contract. The loop's invariant: each bit says that none of the places passed fits.
-use mathlib.Core.Path.{◌≡◌, ap, ap₂, ◌∙◌}
+use mathlib.Core.Path.{ap₂, ◌∙◌}
 use mathlib.Core.Bool.{◌&&◌}
-use Prim.Native.Nat.{ℕ}
 use native.Mathlib.Omega.{arith}
 use Rattle.bits.proofs.BitLaws.{bit-and}
 use Rattle.search.specs.Groups.{plane, none_of}
@@ -13,15 +12,6 @@ pub loop-i-init : goal.loop-i-init
 unfolding none_of
 loop-i-init c = (omega arith, all_ones)
 
-pub wrong_at-all-requires : goal.wrong_at-all-requires
-wrong_at-all-requires c = omega arith
-
-pub overflow_step-i : goal.overflow_step-i
-overflow_step-i c = omega arith
-
-pub loop-i-smaller : goal.loop-i-smaller
-loop-i-smaller c = omega arith
-
 pub loop-i-preserved : goal.loop-i-preserved
 loop-i-preserved c =
     let l = c.loop-i in
@@ -29,10 +19,3 @@ loop-i-preserved c =
       omega arith,
       λ k h. bit-and l.all c.wrong_at-all.result k ∙ ap₂ ◌&&◌ (l.invariant.1 k h) (c.wrong_at-all.ensures k h) ∙ none_turn l.i (plane k part),
     )
-
-pub returns : goal.returns
-returns c = λ k h.
-    let l = c.loop-i in
-    let a = c.args in
-    let e : l.i ≡ a.places = omega arith in
-    l.invariant.1 k h ∙ ap (λ (n : ℕ). none_of n (plane k a.part.now)) e

@@ -20,20 +20,6 @@ use Rattle.sorter.proofs.sort_with_sc.Goals as goal
 begun : (p : Layout) (line buf : List ℕ) (n : ℕ) → buf ≡ replicate n 0 → Filled (sofar p Lsd line 0) 0 buf
 begun p line buf n e = subst (λ (bs : List Bool). Filled bs 0 buf) (none_yet p Lsd line) (cleared n buf e)
 
-pub sort_frame-half-requires : goal.sort_frame-half-requires
-sort_frame-half-requires c =
-    record {
-      apart = c.requires.apart;
-      p_value = (sym c.in_eights.ensures ∙ c.if-in_eights.true, c.requires.line_len.0, refl, omega arith, omega arith);
-    }
-
-pub sort_frame-requires : goal.sort_frame-requires
-sort_frame-requires c =
-    record {
-      apart = c.requires.apart;
-      p_value = (sym c.in_eights.ensures ∙ c.if-in_eights.true, c.requires.line_len.0, refl, omega arith, c.sort_frame-half.ensures.0);
-    }
-
 pub returns-then-in_eights : goal.returns-then-in_eights
 returns-then-in_eights c =
     let a = c.args in
