@@ -12,8 +12,7 @@ help: ## says what there is
 	@awk -F ':.*## ' '/^[a-z]+:.*## / { printf "make %-10s %s\n", $$1, $$2 }' Makefile
 
 demo: ## proves what it shows, then shows it: a lesson with mute pressed on an escape, figures, bit layouts
-	@mkdir -p target
-	@sh tools/progress check demo figures layouts 3>&2 >target/demo.log 2>&1 || { cat target/demo.log; exit 1; }
+	@sh tools/built demo figures layouts
 	@sh tools/run demo
 	@echo
 	@sh tools/run figures
@@ -46,5 +45,5 @@ bench:
 	@before=; [ -z "$(BEFORE)" ] || before=$$(sh bench/before "$(BEFORE)") || exit 1; export DELAMPUK_BEFORE=$$before; \
 		cargo test $(of_bench) --test all && cargo run $(of_bench)
 
-clean: ## removes what was made: target/ and rust/target/
-	@rm -rf target rust/target
+clean: ## removes what was made: target/, rust/target/ and what rt keeps in out/ of each crate
+	@rm -rf target rust/target crates/*/out

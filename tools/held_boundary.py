@@ -1,10 +1,14 @@
 """Holds what is not written from tools/boundary.desc to it: the structs and the exported calls of the crates, and the version where it stands
-elsewhere. tools/gen_boundary.py calls `faults`."""
+elsewhere. The exports stand in the crate `card_c`, each over the function of `card` of the same name, whose clauses it states again: the two are
+held to one another too. tools/gen_boundary.py calls `faults`."""
 import glob
 import re
 
 NUMBERS = ("u8", "u16", "u32", "usize")
 SPACE = re.compile(r"\s+")
+# #[repr(C)] and the other attributes of a struct
+REPR_C = r"#\[repr\(C\)\](?:\s*#\[[^\]]*\])*\s*"
+EXPORTED = r'#\[unsafe\(no_mangle\)\]\s*pub extern "C" '
 
 
 def read(path):
@@ -26,15 +30,20 @@ def pairs(text):
 def structs_of(crate):
     """The #[repr(C)] structs of a crate with fields, and those that are a number by another name."""
     code = sources(crate)
-    named = {name: pairs(body) for name, body in re.findall(r"#\[repr\(C\)\]\s*pub struct (\w+) \{(.*?)\}", code, re.S)}
-    numbers = dict(re.findall(r"#\[repr\(C\)\]\s*pub struct (\w+)\(pub (\w+)\);", code))
+    named = {name: pairs(body) for name, body in re.findall(REPR_C + r"pub struct (\w+) \{(.*?)\}", code, re.S)}
+    numbers = dict(re.findall(REPR_C + r"pub struct (\w+)\(pub (\w+)\);", code))
     return named, numbers
 
 
 def calls_of(crate):
     """The exported functions of a crate: parameters and result."""
-    head = r'#\[no_mangle\]\s*pub extern "C" fn (\w+)\((.*?)\)\s*(?:-> (\w+))?\s*(?:requires|ensures|\{)'
+    head = EXPORTED + r"fn (\w+)\((.*?)\)\s*(?:-> (\w+))?\s*(?:requires|ensures|\{)"
     return {name: (pairs(parameters), result or None) for name, parameters, result in re.findall(head, sources(crate), re.S)}
+
+
+def contracts(crate, before):
+    """What stands between a function's name and its body, parameters and clauses: of each public function with that text before `fn`."""
+    return {name: SPACE.sub(" ", told) for name, told in re.findall(before + r"fn (\w+)(.*?)\n\{\n", sources(crate), re.S)}
 
 
 class Crates:
@@ -77,19 +86,29 @@ class Crates:
             yield "%s::%s crosses to C (#[repr(C)]), but is not described" % origin
 
     def faults_of_calls(self):
-        there = calls_of("card")
+        there = calls_of("card_c")
         wanted = {"delampuk_" + name: (parameters, result) for name, parameters, result in self.described["calls"]}
         for name, (parameters, result) in wanted.items():
             if name not in there:
-                yield "card::%s is not there" % name
+                yield "card_c::%s is not there" % name
                 continue
             told, gives = there[name]
             if self.kinds(told) != parameters:
-                yield "card::%s has other parameters than are described: %s" % (name, self.kinds(told))
+                yield "card_c::%s has other parameters than are described: %s" % (name, self.kinds(told))
             if (gives and self.kind(gives)) != result:
-                yield "card::%s gives %s, and not %s" % (name, gives, result)
+                yield "card_c::%s gives %s, and not %s" % (name, gives, result)
         for name in sorted(there.keys() - wanted.keys()):
-            yield "card::%s is exported, but not described" % name
+            yield "card_c::%s is exported, but not described" % name
+
+
+def faults_of_exports():
+    """Each export has the parameters and the clauses of the function of `card` that it calls."""
+    below, exported = contracts("card", r"\bpub "), contracts("card_c", EXPORTED)
+    for name in sorted(below.keys() | exported.keys()):
+        if name not in below or name not in exported:
+            yield "%s is not in both of card and card_c" % name
+        elif below[name] != exported[name]:
+            yield "card_c::%s has other parameters or clauses than card::%s" % (name, name)
 
 
 def versions():
@@ -106,6 +125,7 @@ def faults(described):
     crates = Crates(described)
     yield from crates.faults_of_structs()
     yield from crates.faults_of_calls()
+    yield from faults_of_exports()
     for place, version in versions():
         if version != described["version"]:
             yield "%s has version %s, and not %s" % (place, version, described["version"])

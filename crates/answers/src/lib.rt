@@ -1,4 +1,6 @@
 // What calls answer, in the numbers that cross to C: document 01's number and values for each case, by the definitions of specs/.
+#![tactic(auto)]
+
 ghost use Rattle.std.specs.Prelude.{◌≡◌};
 ghost use Rattle.words.specs.Readings.{reading_kind, reading_code};
 ghost use Rattle.track.specs.Parts.{standing_number, verdict_number};

@@ -1,5 +1,7 @@
 // What a driver can ask: which library this is, what a state has in force and due, how much of its buffers counts, and what a code is
 // (document 01, 'Codes and bit places' and 'Slots'). Every state, mode and code is answered, in range or not.
+#![tactic(auto)]
+
 ghost use Rattle.std.specs.Prelude.{◌≡◌};
 ghost use Rattle.bits.specs.Bits.{digit};
 ghost use Rattle.codes.specs.declared.Command.TheVariants.{NoEffect};

@@ -1,5 +1,6 @@
-// What a card driver in C calls. States are lent, answers are numbers, and no call asks anything of its numbers and lengths: each of them is
-// answered. A call over a lent state is thin over one by value, in a form that `lending` has the law of.
+// What a card driver in C calls, as a library: `card_c` exports these functions to C under the same names. States are lent, answers are numbers,
+// and no call asks anything of its numbers and lengths: each of them is answered. A call over a lent state is thin over one by value, in a form
+// that `lending` has the law of.
 ghost use Rattle.std.specs.Prelude.{◌≡◌};
 ghost use Rattle.buffers.specs.Buffers.{each};
 ghost use Rattle.modes.specs.Modes.{audio_off, off};
@@ -26,16 +27,14 @@ use reader::Reader;
 use sender::Sender;
 
 // Which library this is.
-#[unsafe(no_mangle)]
-pub extern "C" fn delampuk_about() -> Library
+pub fn delampuk_about() -> Library
     ensures { result ≡ library }
 {
     asking::about()
 }
 
 // Whether a driver that was compiled for a version can call this library.
-#[unsafe(no_mangle)]
-pub extern "C" fn delampuk_fits(version: u32) -> u8
+pub fn delampuk_fits(version: u32) -> u8
     ensures { result ≡ fits_version version }
 {
     asking::fits(version)
@@ -44,16 +43,14 @@ pub extern "C" fn delampuk_fits(version: u32) -> u8
 // ---- sending
 
 // The state that a sender starts in.
-#[unsafe(no_mangle)]
-pub extern "C" fn delampuk_start_sender(state: &mut Sender)
+pub fn delampuk_start_sender(state: &mut Sender)
     ensures { state.new ≡ fresh_with audio_off }
 {
     *state = sender::fresh();
 }
 
 // One sending call: the state is advanced, or untouched after a refusal.
-#[unsafe(no_mangle)]
-pub extern "C" fn delampuk_send(
+pub fn delampuk_send(
     state: &mut Sender,
     mute: u8,
     code: u8,
@@ -72,24 +69,21 @@ pub extern "C" fn delampuk_send(
 }
 
 // What a sender has in force, chosen and due.
-#[unsafe(no_mangle)]
-pub extern "C" fn delampuk_tell_sender(state: &Sender) -> SenderTold
+pub fn delampuk_tell_sender(state: &Sender) -> SenderTold
     ensures { result ≡ sender_told state.now }
 {
     asking::sender_told(*state)
 }
 
 // A sender's saved form, and a sender from one.
-#[unsafe(no_mangle)]
-pub extern "C" fn delampuk_save_sender(state: &Sender, saved: &mut [u8]) -> u8
+pub fn delampuk_save_sender(state: &Sender, saved: &mut [u8]) -> u8
     ensures { (result ≡ sender_saved state.now saved.old)
         × (saved.new ≡ sender_kept state.now saved.old) }
 {
     saving::save_sender(*state, saved)
 }
 
-#[unsafe(no_mangle)]
-pub extern "C" fn delampuk_load_sender(state: &mut Sender, saved: &[u8]) -> u8
+pub fn delampuk_load_sender(state: &mut Sender, saved: &[u8]) -> u8
     ensures { (result ≡ (sender_loaded state.old saved.now).answer)
         × (state.new ≡ (sender_loaded state.old saved.now).state) }
 {
@@ -99,8 +93,7 @@ pub extern "C" fn delampuk_load_sender(state: &mut Sender, saved: &[u8]) -> u8
 }
 
 // A preset's state to start from, and the data code to offer; or a refusal, and the state as it was.
-#[unsafe(no_mangle)]
-pub extern "C" fn delampuk_read_preset(state: &mut Sender, bits: u16) -> PresetAnswer
+pub fn delampuk_read_preset(state: &mut Sender, bits: u16) -> PresetAnswer
     ensures { PresetTold state.old bits result state.new }
 {
     let stepped = presetting::preset_step(*state, bits);
@@ -109,8 +102,7 @@ pub extern "C" fn delampuk_read_preset(state: &mut Sender, bits: u16) -> PresetA
 }
 
 // A state's chosen audio and data in force, as a preset.
-#[unsafe(no_mangle)]
-pub extern "C" fn delampuk_write_preset(state: &Sender) -> PresetBits
+pub fn delampuk_write_preset(state: &Sender) -> PresetBits
     ensures { result ≡ preset_given state.now }
 {
     presetting::preset_of(*state)
@@ -119,16 +111,14 @@ pub extern "C" fn delampuk_write_preset(state: &Sender) -> PresetBits
 // ---- reading
 
 // The state that a reader starts in.
-#[unsafe(no_mangle)]
-pub extern "C" fn delampuk_start_reader(state: &mut Reader)
+pub fn delampuk_start_reader(state: &mut Reader)
     ensures { state.new ≡ fresh_in off }
 {
     *state = reader::fresh();
 }
 
 // One block read: the state is advanced, or untouched after a refusal.
-#[unsafe(no_mangle)]
-pub extern "C" fn delampuk_read(
+pub fn delampuk_read(
     state: &mut Reader,
     line: &[u8],
     voice: &mut [u8],
@@ -142,24 +132,21 @@ pub extern "C" fn delampuk_read(
 }
 
 // What a reader has in force and due, and its place.
-#[unsafe(no_mangle)]
-pub extern "C" fn delampuk_tell_reader(state: &Reader) -> ReaderTold
+pub fn delampuk_tell_reader(state: &Reader) -> ReaderTold
     ensures { result ≡ reader_told state.now }
 {
     asking::reader_told(*state)
 }
 
 // A reader's saved form, and a reader from one.
-#[unsafe(no_mangle)]
-pub extern "C" fn delampuk_save_reader(state: &Reader, saved: &mut [u8]) -> u8
+pub fn delampuk_save_reader(state: &Reader, saved: &mut [u8]) -> u8
     ensures { (result ≡ reader_saved state.now saved.old)
         × (saved.new ≡ reader_kept state.now saved.old) }
 {
     saving::save_reader(*state, saved)
 }
 
-#[unsafe(no_mangle)]
-pub extern "C" fn delampuk_load_reader(state: &mut Reader, saved: &[u8]) -> u8
+pub fn delampuk_load_reader(state: &mut Reader, saved: &[u8]) -> u8
     ensures { (result ≡ (reader_loaded state.old saved.now).answer)
         × (state.new ≡ (reader_loaded state.old saved.now).state) }
 {
@@ -171,24 +158,21 @@ pub extern "C" fn delampuk_load_reader(state: &mut Reader, saved: &[u8]) -> u8
 // ---- recordings
 
 // The smallest place from the start on where alignment stands.
-#[unsafe(no_mangle)]
-pub extern "C" fn delampuk_search(recording: &[u8], start: usize) -> SearchAnswer
+pub fn delampuk_search(recording: &[u8], start: usize) -> SearchAnswer
     ensures { result ≡ search_answer_of (search_of recording.now start) }
 {
     answers::search_answer(search::search(recording, start))
 }
 
 // A walk that begins at a place, with a fresh reader.
-#[unsafe(no_mangle)]
-pub extern "C" fn delampuk_start_walk(state: &mut WalkState, place: usize)
+pub fn delampuk_start_walk(state: &mut WalkState, place: usize)
     ensures { state.new ≡ walk_from place }
 {
     *state = calls::walk_from(place);
 }
 
 // One step of a walk: it is moved on, or untouched after a refusal.
-#[unsafe(no_mangle)]
-pub extern "C" fn delampuk_step(
+pub fn delampuk_step(
     state: &mut WalkState,
     recording: &[u8],
     voice: &mut [u8],
@@ -202,16 +186,14 @@ pub extern "C" fn delampuk_step(
 }
 
 // A walk's saved form, and a walk from one. The recording is not among it.
-#[unsafe(no_mangle)]
-pub extern "C" fn delampuk_save_walk(state: &WalkState, saved: &mut [u8]) -> u8
+pub fn delampuk_save_walk(state: &WalkState, saved: &mut [u8]) -> u8
     ensures { (result ≡ walk_saved state.now saved.old)
         × (saved.new ≡ walk_kept state.now saved.old) }
 {
     keeping::save_walk(*state, saved)
 }
 
-#[unsafe(no_mangle)]
-pub extern "C" fn delampuk_load_walk(state: &mut WalkState, saved: &[u8]) -> u8
+pub fn delampuk_load_walk(state: &mut WalkState, saved: &[u8]) -> u8
     ensures { (result ≡ (walk_loaded state.old saved.now).answer)
         × (state.new ≡ (walk_loaded state.old saved.now).state) }
 {
@@ -222,8 +204,7 @@ pub extern "C" fn delampuk_load_walk(state: &mut WalkState, saved: &[u8]) -> u8
 
 // The listing of a recording as text, and how long it is: the text's length and one more where it does not fit, and then what fits is
 // written.
-#[unsafe(no_mangle)]
-pub extern "C" fn delampuk_list(recording: &[u8], text: &mut [u8]) -> usize
+pub fn delampuk_list(recording: &[u8], text: &mut [u8]) -> usize
     ensures { Written 0 (listing_of recording.now) text.old result text.new }
 {
     scribe::list(recording, text)
@@ -232,16 +213,14 @@ pub extern "C" fn delampuk_list(recording: &[u8], text: &mut [u8]) -> usize
 // ---- what a driver can ask
 
 // How many octets of a voice buffer and how many bits of a data buffer count under a mode.
-#[unsafe(no_mangle)]
-pub extern "C" fn delampuk_count(mode: Mode) -> Counts
+pub fn delampuk_count(mode: Mode) -> Counts
     ensures { result ≡ counts_of mode }
 {
     asking::count_of(mode)
 }
 
 // What a code is, and the places that it gives to a stream.
-#[unsafe(no_mangle)]
-pub extern "C" fn delampuk_explain(code: u8) -> CodeTold
+pub fn delampuk_explain(code: u8) -> CodeTold
     ensures { result ≡ code_told code }
 {
     asking::code_told(code)

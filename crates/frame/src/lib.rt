@@ -1,4 +1,6 @@
 // The writer: both frames of a block, from its header, voice and data (document 01, 'Codes and bit places' and 'Sending a block').
+#![tactic(auto)]
+
 ghost use Rattle.std.specs.Prelude.{◌≡◌, ◌++◌, ◌+◌, ◌-◌, ◌*◌, ◌/◌, ◌%◌, length};
 ghost use Rattle.bits.specs.Bits.{odd, bits_of, low_bits, octet_bits, octets};
 ghost use Rattle.places.specs.Streams.{fill};

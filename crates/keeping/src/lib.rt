@@ -1,5 +1,7 @@
 // A walk as a driver keeps it between its steps, and its saved form (docs/SAVED.md), which begins with that of its reader. Every octet of a form
 // is loaded as it is: a state out of range is refused by the calls that are given it.
+#![tactic(auto)]
+
 ghost use Rattle.std.specs.Prelude.{◌≡◌, ◌+◌, ◌≤◌, length};
 ghost use Rattle.saving.specs.Saved.{is_form};
 ghost use Rattle.keeping.specs.SavedWalk.{walk_forms, walk_saved, walk_kept, walk_loaded, walk_in, eight_low_first};

@@ -1,5 +1,7 @@
 // One step of a walk that hands out no voice and no data (document 01, 'Finding alignment' and 'How to write each place'). The work is
 // `recording::look`'s; here it is lent the walk's parts, and the walk moves by what it gives.
+#![tactic(auto)]
+
 ghost use Rattle.std.specs.Prelude.{◌≡◌};
 ghost use Rattle.recording.specs.Walk.{look_at};
 ghost use Rattle.walk.specs.Walks.{onward};

@@ -1,5 +1,7 @@
 // Saved forms of a sender's and a reader's state: octets that a driver keeps and loads again, also with a later version of this library (docs/SAVED.md). A form is known
 // by its length. Every octet of a form is loaded as it is: a state out of range is refused by the calls that are given it.
+#![tactic(auto)]
+
 ghost use Rattle.std.specs.Prelude.{◌≡◌, get_or};
 ghost use Rattle.saving.specs.Saved.{save_answer, saved_over, is_form, sender_forms, sender_saved, sender_kept, sender_in, sender_loaded, reader_forms, reader_saved, reader_kept, reader_loaded, reader_in};
 

@@ -1,5 +1,7 @@
 // The sender's step: state, call and buffers in; the next state and the answer out; the block written into the lent line (document 01,
 // 'Sending a block').
+#![tactic(auto)]
+
 ghost use Rattle.std.specs.Prelude.{◌≡◌};
 ghost use Rattle.buffers.specs.Buffers.{each};
 ghost use Rattle.control.specs.Decisions.{with_remainder};

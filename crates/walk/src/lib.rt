@@ -1,5 +1,7 @@
 // A walk over a recording (document 01, 'Finding alignment' and 'How to write each place'): it keeps the lent recording and its place
 // together. The work of a step is `recording::step`'s; here it is lent the walk's parts, and the walk moves by what it gives.
+#![tactic(auto)]
+
 ghost use Rattle.std.specs.Prelude.{◌≡◌};
 ghost use Rattle.buffers.specs.Buffers.{each};
 ghost use Rattle.recording.specs.Walk.{step_at, buffers_at};
