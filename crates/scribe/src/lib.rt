@@ -1,4 +1,6 @@
 // The listing of a recording, line by line, as text in a lent buffer (document 01, 'Figures to check against').
+#![tactic(auto)]
+
 ghost use Rattle.std.specs.Prelude.{◌≡◌, true, false, ◌+◌, ◌<◌, ◌≤◌, length};
 ghost use Rattle.reader.specs.State.{state_in_range};
 ghost use Rattle.text.specs.Over.{Written};

@@ -1,4 +1,6 @@
 // One line of the listing of a recording, as text in a lent buffer (document 01, 'Figures to check against').
+#![tactic(auto)]
+
 ghost use Rattle.std.specs.Prelude.{◌++◌};
 ghost use Rattle.text.specs.Over.{Written};
 ghost use Rattle.digits.specs.Digits.{decimal_of};

@@ -1,0 +1,15 @@
+-- `scribe::step_on` meets its contract: no row refuses the look.
+use mathlib.Core.Path.{refl, ◌∙◌}
+use Rattle.recording.proofs.StepLaws.{look_here}
+use borrow.Author.Rules.{rules}
+use Rattle.scribe.proofs.step_on.Goals as goal
+
+pub returns : goal.returns
+returns c =
+    let a = c.args in
+    c.look_from.ensures ∙ look_here a.recording.now a.place a.lost a.s (record {
+      range = c.requires.0;
+      streams = refl;
+      small = c.requires.1;
+      inside = c.requires.2;
+    })
