@@ -441,11 +441,7 @@ def faults_of_template():
 
 
 def faults_of_sizes():
-    """The sizes of states that a tool which writes proofs is told, and that the library tells of itself."""
-    walk = {}
-    exec(read("tools/walk.desc"), walk)
-    if walk["types"]["Reader"][2:] != (octets("reader"), alignment("reader")):
-        yield "tools/walk.desc has another size of a reader"
+    """The sizes of states that the library tells of itself."""
     library = "library = record { version = %d; sender = %d; reader = %d; walk = %d; reserved = 0 }"
     if library % (version_number(VERSION), octets("sender"), octets("reader"), octets("walk")) not in read("crates/asking/specs/Asked.antt"):
         yield "crates/asking/specs/Asked.antt tells another version or other sizes of the library"

@@ -1,6 +1,6 @@
 // What a card driver in C calls, as a library: `card_c` exports these functions to C under the same names. States are lent, answers are numbers,
 // and no call asks anything of its numbers and lengths: each of them is answered. A call over a lent state is thin over one by value, in a form
-// that `lending` has the law of.
+// that `lending` says over any state.
 #![tactic(auto)]
 
 ghost use Rattle.std.specs.Prelude.{◌≡◌};
