@@ -3,7 +3,6 @@ use mathlib.Core.Path.{◌≡◌, sym, ap, ◌∙◌}
 use mathlib.Core.Bool.{Bool}
 use mathlib.Core.List.{List, append-nil}
 use Prim.Native.Nat.{ℕ, ◌/◌}
-use borrow.Author.Rules.{rules}
 use lib.Bits.{bit_xor}
 use lib.Dec.{lit<}
 use Rattle.bits.specs.Bits.{low_bits, number, xors}

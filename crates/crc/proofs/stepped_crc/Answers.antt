@@ -1,9 +1,9 @@
 -- `crc::stepped_crc` meets its contract. The loop's invariant: the sum is that of the octets passed, as they are summed. The measure is what is left.
 use mathlib.Core.Path.{◌≡◌, refl, sym, ap, ap₂, ◌∙◌}
 use mathlib.Core.List.{[], ◌∷◌}
-use Prim.Native.Nat.{ℕ, ◌-◌, ◌≤◌, ◌<◌}
+use Prim.Native.Nat.{ℕ, ◌≤◌, ◌<◌}
 use native.Mathlib.Omega.{arith}
-use lib.ListN.{length, take, get_or}
+use lib.ListN.{length, get_or}
 use lib.Seq.{take_all}
 use Rattle.crc.specs.Crc.{crc4_from, summed_from, block_crc_of}
 use Rattle.crc.proofs.CrcLaws.{crc4_from-nil, crc4_from-zero, crc4_from-turn, length-summed_from, summed_at}

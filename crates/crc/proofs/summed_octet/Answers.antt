@@ -3,7 +3,6 @@ use native.Mathlib.Omega.{arith}
 use borrow.Author.Tests.{le-leb, lt-leb, lt-ltb, le-ltb}
 use Rattle.bits.proofs.BitLaws.{without-sc}
 use Rattle.crc.specs.Crc.{summed}
-use borrow.Author.Rules.{rules}
 use Rattle.crc.proofs.summed_octet.Goals as goal
 
 pub returns-then-at-le87 : goal.returns-then-at-le87

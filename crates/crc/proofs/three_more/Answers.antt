@@ -5,7 +5,6 @@ use lib.Bits.{bit_xor, bit_and}
 use Rattle.bits.specs.Bits.{low_bits}
 use Rattle.bits.specs.Remainder.{continued, remainder}
 use Rattle.crc.specs.Crc.{crc4_generator}
-use borrow.Author.Rules.{rules}
 use Rattle.crc.proofs.three_more.Goals as goal
 
 pub returns : goal.returns

@@ -1,5 +1,4 @@
 -- `packing::append` meets its contract: at each of its three ends as many octets are written as there is room for.
-use borrow.Author.Rules.{rules}
 use native.Mathlib.Omega.{arith}
 use mathlib.Core.Path.{refl}
 use mathlib.Core.Logic.{inl, inr}

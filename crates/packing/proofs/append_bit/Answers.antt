@@ -1,5 +1,4 @@
 -- `packing::append_bit` meets its contract: the octet in which the bits end is as the law of one bit more says.
-use borrow.Author.Rules.{rules}
 use native.Mathlib.Omega.{arith}
 use mathlib.Core.Path.{◌≡◌}
 use Prim.Native.Nat.{ℕ, ◌-◌, ◌*◌, ◌%◌, ◌^◌, ◌≤◌, ◌<◌}

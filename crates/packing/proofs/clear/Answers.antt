@@ -4,7 +4,7 @@ use borrow.Author.Fill.{fill_none, fill_more}
 use native.Mathlib.Omega.{arith}
 use mathlib.Core.Path.{◌≡◌, ◌∙◌, ap}
 use mathlib.Core.List.{List, ◌++◌, append-nil}
-use Prim.Native.Nat.{ℕ, ◌-◌, ◌≤◌}
+use Prim.Native.Nat.{ℕ, ◌≤◌}
 use lib.ListN.{length, drop, set, replicate, length-set, drop_of_length-le}
 use Rattle.packing.proofs.clear.Goals as goal
 

@@ -1,5 +1,4 @@
 -- `packing::joined` meets its contract: no bit is lost by the shift, and so the law of lanes that are joined holds.
-use borrow.Author.Rules.{rules}
 use native.Mathlib.Omega.{arith}
 use native.Mathlib.Nat.{mod-eq_of_lt}
 use mathlib.Core.Path.{◌≡◌, ap, ◌∙◌}

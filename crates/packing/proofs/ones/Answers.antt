@@ -1,5 +1,4 @@
 -- `packing::ones` meets its contract.
-use borrow.Author.Rules.{rules}
 use native.Mathlib.Omega.{arith}
 use lib.Pow.{pow_pos}
 use Rattle.bits.proofs.ShiftLaws.{one_shl}

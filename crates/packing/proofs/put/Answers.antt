@@ -2,13 +2,10 @@
 use borrow.Author.Rules.{rules}
 use native.Mathlib.Omega.{arith}
 use mathlib.Core.Path.{◌≡◌, sym, subst, ap, ◌∙◌}
-use mathlib.Core.Bool.{Bool}
-use mathlib.Core.Logic.{⊎_elim}
 use mathlib.Core.List.{List, ◌++◌, append-nil}
 use Prim.Native.Nat.{ℕ, ◌+◌, ◌-◌, ◌*◌, ◌/◌, ◌%◌, ◌^◌, ◌≤◌, ◌<◌, min}
-use lib.ListN.{length, take, set, length-set}
-use Rattle.bits.specs.Bits.{number, octets}
-use Rattle.packing.specs.Filled.{Filled}
+use lib.ListN.{length, take, set}
+use Rattle.bits.specs.Bits.{octets}
 use Rattle.packing.proofs.FillLaws.{eight-more}
 use Rattle.packing.proofs.put.Invariants.{Put}
 use Rattle.packing.proofs.put.Goals.{then-k-n, else-k-n}

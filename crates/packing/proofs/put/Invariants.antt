@@ -1,15 +1,11 @@
 -- `packing::put` meets its contract. The loop's invariant: of the number's octets the first k are in the buffer.
-use borrow.Author.Rules.{rules}
-use native.Mathlib.Omega.{arith}
-use mathlib.Core.Path.{◌≡◌, sym, subst, ap, ◌∙◌}
+use mathlib.Core.Path.{◌≡◌}
 use mathlib.Core.Bool.{Bool}
-use mathlib.Core.Logic.{⊎_elim}
-use mathlib.Core.List.{List, ◌++◌, append-nil}
-use Prim.Native.Nat.{ℕ, ◌+◌, ◌-◌, ◌*◌, ◌/◌, ◌%◌, ◌^◌, ◌≤◌, ◌<◌, min}
-use lib.ListN.{length, take, set, length-set}
+use mathlib.Core.List.{List, ◌++◌}
+use Prim.Native.Nat.{ℕ, ◌-◌, ◌*◌, ◌≤◌, min}
+use lib.ListN.{length, take}
 use Rattle.bits.specs.Bits.{number, octets}
 use Rattle.packing.specs.Filled.{Filled}
-use Rattle.packing.proofs.FillLaws.{eight-more}
 use Rattle.packing.proofs.put.Given as goal
 
 -- j of the number's octets are in the buffer

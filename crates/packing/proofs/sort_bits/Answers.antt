@@ -2,11 +2,9 @@
 use borrow.Author.Rules.{rules}
 use native.Mathlib.Omega.{arith}
 use mathlib.Core.Path.{◌≡◌, sym, ap, ◌∙◌}
-use mathlib.Core.Bool.{Bool}
-use mathlib.Core.List.{List, ◌++◌, append-nil}
-use Prim.Native.Nat.{ℕ, ◌-◌, ◌%◌, ◌≤◌}
-use lib.ListN.{length}
-use Rattle.packing.specs.Filled.{Filled, runs}
+use mathlib.Core.List.{◌++◌, append-nil}
+use Prim.Native.Nat.{ℕ, ◌-◌, ◌%◌}
+use Rattle.packing.specs.Filled.{runs}
 use Rattle.packing.proofs.RunsLaws.{length_runs, runs_on, last_bit}
 use Rattle.packing.proofs.sort_bits.Goals as goal
 

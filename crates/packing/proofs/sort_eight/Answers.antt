@@ -1,5 +1,4 @@
 -- `packing::sort_eight` meets its contract: at each of its ends the runs were gathered and appended with the width that they have.
-use borrow.Author.Rules.{rules}
 use native.Mathlib.Omega.{arith}
 use mathlib.Core.Path.{◌≡◌, sym}
 use mathlib.Core.Bool.{Bool}

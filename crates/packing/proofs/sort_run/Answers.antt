@@ -2,11 +2,9 @@
 use borrow.Author.Rules.{rules}
 use native.Mathlib.Omega.{arith}
 use mathlib.Core.Path.{◌≡◌, sym}
-use mathlib.Core.Bool.{Bool}
-use mathlib.Core.List.{List, ◌++◌, append-nil}
-use Prim.Native.Nat.{◌-◌, ◌*◌, ◌%◌, ◌≤◌}
-use lib.ListN.{length}
-use Rattle.packing.specs.Filled.{Filled, runs}
+use mathlib.Core.List.{◌++◌, append-nil}
+use Prim.Native.Nat.{◌-◌}
+use Rattle.packing.specs.Filled.{runs}
 use Rattle.packing.proofs.RunsLaws.{runs_on, no_runs}
 use Rattle.packing.proofs.sort_run.Goals as goal
 

@@ -1,13 +1,10 @@
 -- `packing::sort_run` meets its contract. The loop's invariant: the runs of octets from + 1 to o are in the buffer.
-use borrow.Author.Rules.{rules}
-use native.Mathlib.Omega.{arith}
-use mathlib.Core.Path.{◌≡◌, sym}
+use mathlib.Core.Path.{◌≡◌}
 use mathlib.Core.Bool.{Bool}
-use mathlib.Core.List.{List, ◌++◌, append-nil}
+use mathlib.Core.List.{List, ◌++◌}
 use Prim.Native.Nat.{◌-◌, ◌*◌, ◌%◌, ◌≤◌}
 use lib.ListN.{length}
 use Rattle.packing.specs.Filled.{Filled, runs}
-use Rattle.packing.proofs.RunsLaws.{runs_on, no_runs}
 use Rattle.packing.proofs.sort_run.Given as goal
 
 abbrev pub invariant-loop-o : goal.invariant-loop-o

@@ -1,5 +1,4 @@
 -- `text::put` meets its contract: inside the buffer one octet is set, and past its end none.
-use borrow.Author.Rules.{rules}
 use native.Mathlib.Omega.{arith}
 use mathlib.Core.Path.{sym, ◌∙◌}
 use lib.Seq.{set_out}

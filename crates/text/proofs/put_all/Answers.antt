@@ -3,10 +3,7 @@ use borrow.Author.Rules.{rules}
 use native.Mathlib.Omega.{arith}
 use native.Mathlib.Numerals.{add-one}
 use mathlib.Core.Path.{◌≡◌}
-use Prim.Native.Nat.{◌-◌, ◌≤◌}
-use lib.ListN.{length, take}
 use lib.Seq.{take-suc, take_all}
-use Rattle.text.specs.Over.{Written}
 use Rattle.text.proofs.OverLaws.{written-length, written_none, written_then}
 use Rattle.text.proofs.put_all.Goals as goal
 

@@ -1,13 +1,7 @@
 -- `text::put_all` meets its contract: all at once where all have room. The loop's invariant: the first i octets are written.
-use borrow.Author.Rules.{rules}
-use native.Mathlib.Omega.{arith}
-use native.Mathlib.Numerals.{add-one}
-use mathlib.Core.Path.{◌≡◌}
 use Prim.Native.Nat.{◌-◌, ◌≤◌}
 use lib.ListN.{length, take}
-use lib.Seq.{take-suc, take_all}
 use Rattle.text.specs.Over.{Written}
-use Rattle.text.proofs.OverLaws.{written-length, written_none, written_then}
 use Rattle.text.proofs.put_all.Given as goal
 
 abbrev pub invariant-loop-i : goal.invariant-loop-i

@@ -2,10 +2,9 @@
 use native.Mathlib.Omega.{arith}
 use native.Mathlib.Numerals.{add-one}
 use mathlib.Core.Path.{◌≡◌, refl}
-use Prim.Native.Nat.{◌+◌, ◌-◌, ◌≤◌}
-use lib.ListN.{length, get_or, take, length-set}
+use Prim.Native.Nat.{◌+◌}
+use lib.ListN.{length, get_or, length-set}
 use lib.Seq.{take-suc, take_all}
-use Rattle.text.specs.Over.{Written}
 use Rattle.text.proofs.OverLaws.{written_none, written_one, written_then}
 use Rattle.text.proofs.put_whole.Goals as goal
 

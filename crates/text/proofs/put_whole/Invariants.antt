@@ -1,12 +1,8 @@
 -- `text::put_whole` meets its contract. The loop's invariant: the first i octets are written.
-use native.Mathlib.Omega.{arith}
-use native.Mathlib.Numerals.{add-one}
-use mathlib.Core.Path.{◌≡◌, refl}
+use mathlib.Core.Path.{◌≡◌}
 use Prim.Native.Nat.{◌+◌, ◌-◌, ◌≤◌}
-use lib.ListN.{length, get_or, take, length-set}
-use lib.Seq.{take-suc, take_all}
+use lib.ListN.{length, take}
 use Rattle.text.specs.Over.{Written}
-use Rattle.text.proofs.OverLaws.{written_none, written_one, written_then}
 use Rattle.text.proofs.put_whole.Given as goal
 
 abbrev pub invariant-loop-i : goal.invariant-loop-i
