@@ -1,5 +1,4 @@
 -- `answers::block_answer` meets its contract: each number is its part's.
-use borrow.Author.Rules.{rules}
 use Rattle.answers.proofs.block_answer.Goals as goal
 
 pub returns : goal.returns

@@ -1,5 +1,4 @@
 -- `answers::search_answer` meets its contract: a place was found, or the search was refused.
-use borrow.Author.Rules.{rules}
 use Rattle.answers.proofs.search_answer.Goals as goal
 
 pub returns-in-Place : goal.returns-in-Place

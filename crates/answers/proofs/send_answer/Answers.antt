@@ -1,5 +1,4 @@
 -- `answers::send_answer` meets its contract: case by case.
-use borrow.Author.Rules.{rules}
 use Rattle.answers.proofs.send_answer.Goals as goal
 
 pub returns-in-Sent : goal.returns-in-Sent

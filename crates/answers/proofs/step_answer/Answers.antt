@@ -1,5 +1,4 @@
 -- `answers::step_answer` meets its contract: case by case.
-use borrow.Author.Rules.{rules}
 use Rattle.answers.proofs.step_answer.Goals as goal
 
 pub returns-in-Block : goal.returns-in-Block

@@ -1,5 +1,4 @@
 -- `asking::code_told` meets its contract: each number is its part's.
-use borrow.Author.Rules.{rules}
 use Rattle.asking.proofs.code_told.Goals as goal
 
 pub returns : goal.returns

@@ -7,7 +7,6 @@ use Rattle.modes.specs.declared.Owner.{Owner}
 use Rattle.modes.specs.declared.Owner.TheVariants.{Voice, Lsd}
 use Rattle.modes.proofs.OwnerLaws.{held_fit, bits_per_frame_is}
 use Rattle.table.proofs.TableLaws.{Fit}
-use borrow.Author.Rules.{rules}
 use Rattle.asking.proofs.count_of.Goals as goal
 
 few : (m : Mode) (o : Owner) → bits_per_frame (held_by m o) ≤ 640

@@ -1,5 +1,4 @@
 -- `asking::places_of` meets its contract: case by case.
-use borrow.Author.Rules.{rules}
 use Rattle.asking.proofs.places_of.Goals as goal
 
 pub returns-in-Neutral : goal.returns-in-Neutral

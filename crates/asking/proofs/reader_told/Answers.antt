@@ -1,5 +1,4 @@
 -- `asking::reader_told` meets its contract: the slot is read, and a message without words left is over.
-use borrow.Author.Rules.{rules}
 use Rattle.asking.proofs.reader_told.Goals as goal
 
 pub returns : goal.returns

@@ -1,5 +1,4 @@
 -- `asking::sender_told` meets its contract: the kind is that of the word due.
-use borrow.Author.Rules.{rules}
 use Rattle.asking.proofs.sender_told.Goals as goal
 
 pub returns : goal.returns

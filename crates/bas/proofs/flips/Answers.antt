@@ -1,7 +1,6 @@
 -- `bas::flips` meets its contract: the source's table is the one that the definition fills, which antt computes.
 use mathlib.Core.Path.{refl}
 use mathlib.Core.Bool.{xor}
-use borrow.Author.Rules.{rules}
 use Rattle.bits.specs.Bits.{number, xors}
 use Rattle.bits.specs.Remainder.{scaled, fed, continued, remainder}
 use Rattle.bas.specs.Flips.{lights, syndrome, filled, flip_table, flips_at}

@@ -1,5 +1,4 @@
 -- `buffers::judge_streams` meets its contract: a row after the other.
-use borrow.Author.Rules.{rules}
 use Rattle.buffers.proofs.judge_streams.Goals as goal
 
 pub returns : goal.returns

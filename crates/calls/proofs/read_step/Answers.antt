@@ -1,6 +1,5 @@
 -- `calls::read_step` meets its contract: the reader's outcome, each part in numbers.
 use Rattle.calls.proofs.ReadLaws.{read_is}
-use borrow.Author.Rules.{rules}
 use Rattle.calls.proofs.read_step.Goals as goal
 
 pub returns : goal.returns

@@ -1,6 +1,5 @@
 -- `calls::send_step` meets its contract: what its callees ensure, put together.
 use Rattle.calls.proofs.SendLaws.{sent_is}
-use borrow.Author.Rules.{rules}
 use Rattle.calls.proofs.send_step.Goals as goal
 
 pub returns : goal.returns

@@ -1,5 +1,4 @@
 -- `calls::walk_from` meets its contract: the reader is a fresh one.
-use borrow.Author.Rules.{rules}
 use Rattle.calls.proofs.walk_from.Goals as goal
 
 pub returns : goal.returns

@@ -1,6 +1,5 @@
 -- `calls::walk_step` meets its contract: the step's outcome, each part in numbers.
 use Rattle.calls.proofs.ReadLaws.{step_is}
-use borrow.Author.Rules.{rules}
 use Rattle.calls.proofs.walk_step.Goals as goal
 
 pub returns : goal.returns

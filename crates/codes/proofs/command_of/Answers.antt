@@ -1,7 +1,6 @@
 -- `codes::command_of` meets its contract: each return follows from its tests.
 use borrow.Author.Tests.{eq-eqb, ne_eqb}
 use Rattle.codes.specs.Commands.{command_of}
-use borrow.Author.Rules.{rules}
 use Rattle.codes.proofs.command_of.Goals as goal
 
 pub returns-then-code-eq0 : goal.returns-then-code-eq0

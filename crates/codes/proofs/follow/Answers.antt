@@ -1,7 +1,6 @@
 -- `codes::follow` meets its contract: a case for each command.
 use Rattle.modes.specs.Modes.{cleared}
 use Rattle.codes.specs.Commands.{offered, followed}
-use borrow.Author.Rules.{rules}
 use Rattle.codes.proofs.follow.Goals as goal
 
 pub returns-in-Neutral : goal.returns-in-Neutral

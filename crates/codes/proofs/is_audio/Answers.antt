@@ -1,5 +1,4 @@
 -- `codes::is_audio` meets its contract: its attribute, and then the table says which values are listed.
-use borrow.Author.Rules.{rules}
 use borrow.Author.Tests.{eq-eqb, ne_eqb}
 use Rattle.codes.proofs.is_audio.Goals as goal
 

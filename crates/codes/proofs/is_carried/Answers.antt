@@ -1,6 +1,5 @@
 -- `codes::is_carried` meets its contract: code and definition are one expression.
 use Rattle.codes.specs.Carried.{carried}
-use borrow.Author.Rules.{rules}
 use Rattle.codes.proofs.is_carried.Goals as goal
 
 pub returns : goal.returns

@@ -1,6 +1,5 @@
 -- `codes::offer` meets its contract: a case for each command.
 use Rattle.codes.specs.Commands.{offered}
-use borrow.Author.Rules.{rules}
 use Rattle.codes.proofs.offer.Goals as goal
 
 pub returns-in-Neutral : goal.returns-in-Neutral

@@ -1,6 +1,5 @@
 -- `codes::reader_carries` meets its contract: by its callee.
 use Rattle.codes.specs.Carried.{reader_carries}
-use borrow.Author.Rules.{rules}
 use Rattle.codes.proofs.reader_carries.Goals as goal
 
 pub returns : goal.returns

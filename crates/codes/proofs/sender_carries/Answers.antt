@@ -1,6 +1,5 @@
 -- `codes::sender_carries` meets its contract: by its callee.
 use Rattle.codes.specs.Carried.{sender_carries}
-use borrow.Author.Rules.{rules}
 use Rattle.codes.proofs.sender_carries.Goals as goal
 
 pub returns : goal.returns

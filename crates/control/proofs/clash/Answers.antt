@@ -2,7 +2,6 @@
 use mathlib.Core.Bool.{or-false}
 use borrow.Author.Tests.{ne_eqb}
 use Rattle.control.specs.Refusals.{clashes}
-use borrow.Author.Rules.{rules}
 use Rattle.control.proofs.clash.Goals as goal
 
 pub returns-then-code-eq0 : goal.returns-then-code-eq0

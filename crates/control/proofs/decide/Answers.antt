@@ -1,7 +1,6 @@
 -- `control::decide` meets its contract: by its ruling.
 use Rattle.control.specs.Decisions.{decision_of}
 use mathlib.Core.Path.{sym, ◌∙◌}
-use borrow.Author.Rules.{rules}
 use Rattle.control.proofs.decide.Goals as goal
 
 pub returns-in-Refuse : goal.returns-in-Refuse

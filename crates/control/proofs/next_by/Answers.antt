@@ -1,5 +1,4 @@
 -- `control::next_by` meets its contract: the block after.
-use borrow.Author.Rules.{rules}
 use Rattle.control.proofs.next_by.Goals as goal
 
 pub returns : goal.returns

@@ -1,6 +1,5 @@
 -- `control::offered_plan` meets its contract: by what the code is as a command, and what is due after it.
 use Rattle.control.specs.Plans.{plan_by}
-use borrow.Author.Rules.{rules}
 use Rattle.control.proofs.offered_plan.Goals as goal
 
 pub returns : goal.returns

@@ -3,7 +3,6 @@ use mathlib.Core.Path.{ap, sym, ◌∙◌}
 use native.Mathlib.Nat.{zero-add}
 use Rattle.control.specs.declared.Rule.{Rule}
 use Rattle.control.specs.Plans.{plan_by}
-use borrow.Author.Rules.{rules}
 use Rattle.control.proofs.plan_by.Goals as goal
 
 pub returns-in-AsItem : goal.returns-in-AsItem

@@ -2,7 +2,6 @@
 use Rattle.refusals.proofs.RowLaws.{in_turn_is}
 use Rattle.buffers.specs.Buffers.{each}
 use Rattle.control.specs.Refusals.{rows, ruling_of}
-use borrow.Author.Rules.{rules}
 use Rattle.control.proofs.ruling_of.Goals as goal
 
 pub returns : goal.returns

@@ -1,5 +1,4 @@
 -- `digits::digit` meets its contract: each test of the code is that of the definition.
-use borrow.Author.Rules.{rules}
 use borrow.Author.Tests.{lt-ltb, le-ltb}
 use Rattle.digits.specs.Digits.{digit_of}
 use Rattle.digits.proofs.digit.Goals as goal

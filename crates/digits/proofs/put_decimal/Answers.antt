@@ -1,5 +1,4 @@
 -- `digits::put_decimal` meets its contract: a small number has no digit above that of 10 ^ 4.
-use borrow.Author.Rules.{rules}
 use native.Mathlib.Omega.{arith}
 use Rattle.digits.specs.Digits.{decimal_of}
 use Rattle.digits.proofs.DigitLaws.{digits_from}

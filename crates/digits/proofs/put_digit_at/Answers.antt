@@ -1,5 +1,4 @@
 -- `digits::put_digit_at` meets its contract: a digit where the power is not larger than the number, and nothing where it is.
-use borrow.Author.Rules.{rules}
 use borrow.Author.Tests.{le-leb, lt-leb}
 use native.Mathlib.Omega.{arith}
 use Rattle.digits.specs.Digits.{digit_at}

@@ -1,16 +1,10 @@
 -- `digits::put_digits` meets its contract. The loop's invariant: the digits from 10 ^ k on, written next, make the digits whole.
-use borrow.Author.Rules.{rules}
-use native.Mathlib.Omega.{arith}
-use native.Mathlib.Nat.{one-le-pow}
-use mathlib.Core.Path.{◌≡◌, refl, ap, ◌∙◌}
+use mathlib.Core.Path.{◌≡◌}
 use mathlib.Core.List.{List}
-use Prim.Native.Nat.{ℕ, ◌/◌, ◌^◌}
-use lib.Dec.{lit<}
+use Prim.Native.Nat.{ℕ, ◌^◌}
 use lib.ListN.{length}
 use Rattle.text.specs.Over.{Written}
 use Rattle.digits.specs.Digits.{digitsFrom}
-use Rattle.text.proofs.OverLaws.{written_none, written_then}
-use Rattle.digits.proofs.DigitLaws.{digits_last, digits_more, power_below}
 use Rattle.digits.proofs.put_digits.Given as goal
 
 abbrev pub invariant-loop-k : goal.invariant-loop-k

@@ -1,5 +1,4 @@
 -- `digits::put_hex` meets its contract: two digits one after the other.
-use borrow.Author.Rules.{rules}
 use Rattle.digits.specs.Digits.{hex_of}
 use Rattle.text.proofs.OverLaws.{written_then}
 use Rattle.digits.proofs.put_hex.Goals as goal

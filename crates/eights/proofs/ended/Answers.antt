@@ -1,7 +1,6 @@
 -- `eights::ended` meets its contract: both eights are what its callees ensure.
 use native.Mathlib.Omega.{arith}
 use Rattle.eights.specs.Eight.{ended_by}
-use borrow.Author.Rules.{rules}
 use Rattle.eights.proofs.ended.Goals as goal
 
 pub returns : goal.returns

@@ -5,7 +5,6 @@ use native.Mathlib.Omega.{arith}
 use lib.ListN.{length}
 use borrow.Author.Tests.{le-leb}
 use Rattle.eights.proofs.EightLaws.{octets_first}
-use borrow.Author.Rules.{rules}
 use Rattle.eights.proofs.octets_at.Goals as goal
 
 pub returns-then-buffer-i-ge8 : goal.returns-then-buffer-i-ge8

@@ -5,7 +5,6 @@ use native.Mathlib.Nat.{mod-eq_of_lt}
 use native.Mathlib.Omega.{arith}
 use lib.Bits.{bit_and, and_le_l}
 use Rattle.eights.specs.Eight.{parted_by}
-use borrow.Author.Rules.{rules}
 use Rattle.eights.proofs.parted.Goals as goal
 
 -- no bit is lost

@@ -6,7 +6,6 @@ use lib.Pow.{pow_pos, pow_mono}
 use Rattle.bits.proofs.ShiftLaws.{one_shl}
 use Rattle.eights.proofs.SpreadLaws.{two_of, four_of, two_is, two_lt, four_is, four_lt, eight_is}
 use Rattle.eights.proofs.WordLaws.{fields_lt}
-use borrow.Author.Rules.{rules}
 use Rattle.eights.proofs.spread.Goals as goal
 
 pub overflow_sub-n : goal.overflow_sub-n

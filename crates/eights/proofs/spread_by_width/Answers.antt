@@ -6,7 +6,6 @@ use Prim.Native.Nat.{ℕ, ◌+◌, ◌*◌, ◌^◌, ◌≤◌, ◌<◌}
 use native.Mathlib.Omega.{arith}
 use lib.ListN.{length, get_or}
 use Rattle.eights.specs.Eight.{spread_by}
-use borrow.Author.Rules.{rules}
 use Rattle.eights.proofs.spread_by_width.Goals as goal
 
 -- where the width is w, what is known of the eights is what an arm asks of them

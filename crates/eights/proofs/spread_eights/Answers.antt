@@ -1,7 +1,7 @@
 -- `eights::spread_eights` meets its contract: the loop's invariant: of the eights from `from` on those before k are spread, and all others are
 -- as they were.
 use mathlib.Core.Path.{◌≡◌, refl, ◌∙◌}
-use Prim.Native.Nat.{ℕ, ◌+◌, ◌-◌, ◌*◌, ◌%◌, ◌^◌, ◌≤◌, ◌<◌}
+use Prim.Native.Nat.{◌+◌, ◌-◌, ◌*◌, ◌%◌, ◌^◌, ◌<◌}
 use native.Mathlib.Nat.{mod-eq_of_lt}
 use native.Mathlib.Omega.{arith}
 use lib.ListN.{length, get_or, length-set}
@@ -9,7 +9,6 @@ use lib.Seq.{get_or-set_other}
 use Rattle.eights.specs.Eight.{eights, field_of, spread_by}
 use Rattle.eights.proofs.WordLaws.{below-small, spread-up, spread-lt}
 use Rattle.eights.proofs.RunLaws.{one_laid}
-use borrow.Author.Rules.{rules}
 use Rattle.eights.proofs.spread_eights.Goals as goal
 
 pub alike-same-requires : goal.alike-same-requires

@@ -1,15 +1,9 @@
 -- `eights::spread_eights` meets its contract: the loop's invariant: of the eights from `from` on those before k are spread, and all others are
 -- as they were.
-use mathlib.Core.Path.{◌≡◌, refl, ◌∙◌}
-use Prim.Native.Nat.{ℕ, ◌+◌, ◌-◌, ◌*◌, ◌%◌, ◌^◌, ◌≤◌, ◌<◌}
-use native.Mathlib.Nat.{mod-eq_of_lt}
-use native.Mathlib.Omega.{arith}
-use lib.ListN.{length, get_or, length-set}
-use lib.Seq.{get_or-set_other}
-use Rattle.eights.specs.Eight.{eights, field_of, spread_by}
-use Rattle.eights.proofs.WordLaws.{below-small, spread-up, spread-lt}
-use Rattle.eights.proofs.RunLaws.{one_laid}
-use borrow.Author.Rules.{rules}
+use mathlib.Core.Path.{◌≡◌}
+use Prim.Native.Nat.{ℕ, ◌-◌, ◌≤◌, ◌<◌}
+use lib.ListN.{length, get_or}
+use Rattle.eights.specs.Eight.{spread_by}
 use Rattle.eights.proofs.spread_eights.Given as goal
 
 abbrev pub invariant-loop-k : goal.invariant-loop-k

@@ -1,6 +1,5 @@
 -- `keeping::load_walk` meets its contract: the octets are a form, or they are none.
 use mathlib.Core.Path.{sym, ◌∙◌}
-use borrow.Author.Rules.{rules}
 use Rattle.saving.specs.Saved.{reader_forms}
 use Rattle.keeping.proofs.SavedWalkLaws.{nine_there}
 use Rattle.keeping.proofs.load_walk.Goals as goal

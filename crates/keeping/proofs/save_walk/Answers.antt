@@ -1,5 +1,4 @@
 -- `keeping::save_walk` meets its contract: the place goes as eight octets, the lowest first.
-use borrow.Author.Rules.{rules}
 use Rattle.keeping.specs.SavedWalk.{low_first}
 use Rattle.keeping.proofs.save_walk.Goals as goal
 

@@ -2,7 +2,6 @@
 use Prim.Native.Nat.{◌-◌}
 use native.Mathlib.Omega.{arith}
 use lib.ListN.{length, length-take}
-use borrow.Author.Rules.{rules}
 use Rattle.keeping.proofs.walk_in.Goals as goal
 
 pub slice_bounds-reader_from-end : goal.slice_bounds-reader_from-end

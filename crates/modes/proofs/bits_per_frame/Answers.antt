@@ -4,7 +4,6 @@ use native.Mathlib.Omega.{arith}
 use Rattle.modes.specs.Owners.{bits_per_frame}
 use Rattle.table.proofs.TableLaws.{Fit}
 use Rattle.modes.proofs.OwnerLaws.{held_fit, bits_per_frame_is}
-use borrow.Author.Rules.{rules}
 use Rattle.modes.proofs.bits_per_frame.Goals as goal
 
 pub overflow_add-columns : goal.overflow_add-columns

@@ -7,7 +7,6 @@ use Rattle.modes.specs.declared.Mode.{Mode}
 use Rattle.modes.specs.declared.Owner.{Owner}
 use Rattle.table.specs.declared.Places.{Places}
 use Rattle.modes.proofs.OwnerLaws.{held_fit, touching, clash_is}
-use borrow.Author.Rules.{rules}
 use Rattle.modes.proofs.give_way.Goals as goal
 
 -- what the test has shown of the definition

@@ -1,6 +1,5 @@
 -- `modes::held_by` meets its contract: a case for each owner.
 use Rattle.modes.specs.Owners.{held_by}
-use borrow.Author.Rules.{rules}
 use Rattle.modes.proofs.held_by.Goals as goal
 
 pub returns-in-Service : goal.returns-in-Service

@@ -1,7 +1,6 @@
 -- `modes::in_range` meets its contract: code and definition are one expression.
 use Rattle.modes.specs.Modes.{in_range}
 use Rattle.modes.proofs.OwnerLaws.{overlaps_is}
-use borrow.Author.Rules.{rules}
 use Rattle.modes.proofs.in_range.Goals as goal
 
 pub returns : goal.returns

@@ -1,6 +1,5 @@
 -- `modes::overlap` meets its contract: a place held by both is a bit or an SC octet that both ranges have.
 use Rattle.modes.proofs.OwnerLaws.{overlaps_is}
-use borrow.Author.Rules.{rules}
 use Rattle.modes.proofs.overlap.Goals as goal
 
 pub returns : goal.returns

@@ -5,7 +5,6 @@ use Prim.Native.Nat.{ℕ}
 use Rattle.modes.specs.Owners.{holds, owner_of}
 use Rattle.numbers.specs.declared.OctetNumber.{OctetNumber}
 use Rattle.table.specs.declared.Places.{Places}
-use borrow.Author.Rules.{rules}
 use Rattle.modes.proofs.owner_of.Goals as goal
 
 -- what a test of a place has shown of the definition

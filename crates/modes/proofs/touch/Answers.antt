@@ -1,5 +1,4 @@
 -- `modes::touch` meets its contract: code and definition are one expression.
-use borrow.Author.Rules.{rules}
 use Rattle.modes.proofs.touch.Goals as goal
 
 pub returns : goal.returns

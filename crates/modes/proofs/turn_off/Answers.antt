@@ -1,5 +1,4 @@
 -- `modes::turn_off` meets its contract: a case for each owner.
-use borrow.Author.Rules.{rules}
 use Rattle.modes.proofs.turn_off.Goals as goal
 
 pub returns-in-Service : goal.returns-in-Service

@@ -1,7 +1,6 @@
 -- `numbers::next_block` meets its contract: each return follows from its test.
 use borrow.Author.Tests.{lt-ltb, le-ltb}
 use Rattle.numbers.specs.Numbers.{following}
-use borrow.Author.Rules.{rules}
 use Rattle.numbers.proofs.next_block.Goals as goal
 
 pub returns-then-b-lt8 : goal.returns-then-b-lt8

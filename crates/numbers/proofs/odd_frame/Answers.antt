@@ -1,7 +1,6 @@
 -- `numbers::odd_frame` meets its contract: one more than the even frame.
 use native.Mathlib.Omega.{arith}
 use Rattle.numbers.specs.Numbers.{even_frame, odd_frame}
-use borrow.Author.Rules.{rules}
 use Rattle.numbers.proofs.odd_frame.Goals as goal
 
 pub overflow_add-result : goal.overflow_add-result

@@ -8,7 +8,6 @@ use Rattle.modes.specs.declared.Mode.{Mode}
 use Rattle.modes.specs.Owners.{held_by}
 use Rattle.modes.proofs.OwnerLaws.{held_fit}
 use Rattle.modes.specs.declared.Owner.TheVariants.{Voice, Lsd}
-use borrow.Author.Rules.{rules}
 use Rattle.places.proofs.layout_of.Goals as goal
 
 laid : (m : Mode) (v d : Places) (n : ℕ) → v ≡ held_by m Voice → d ≡ held_by m Lsd → n ≡ min (8 - d.from) (7 - v.to)

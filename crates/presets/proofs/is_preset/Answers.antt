@@ -1,6 +1,5 @@
 -- `presets::is_preset` meets its contract: code and definition are one expression.
 use Rattle.presets.specs.Presets.{is_preset}
-use borrow.Author.Rules.{rules}
 use Rattle.presets.proofs.is_preset.Goals as goal
 
 pub returns : goal.returns

@@ -3,7 +3,6 @@ use mathlib.Core.Path.{◌≡◌, sym, ◌∙◌}
 use Rattle.refusals.specs.Rows.{first_given}
 use Rattle.refusals.proofs.RowLaws.{in_turn_is}
 use Rattle.presets.specs.Presets.{read_rows, preset_read}
-use borrow.Author.Rules.{rules}
 use Rattle.presets.proofs.read_preset.Goals as goal
 
 pub returns-in-Refuse : goal.returns-in-Refuse

@@ -1,5 +1,4 @@
 -- `presetting::preset_answer` meets its contract: each number is its part's.
-use borrow.Author.Rules.{rules}
 use Rattle.presetting.proofs.preset_answer.Goals as goal
 
 pub returns : goal.returns

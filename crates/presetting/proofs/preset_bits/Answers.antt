@@ -1,5 +1,4 @@
 -- `presetting::preset_bits` meets its contract: a preset was written, or refused.
-use borrow.Author.Rules.{rules}
 use Rattle.presetting.proofs.preset_bits.Goals as goal
 
 pub returns-in-Bits : goal.returns-in-Bits

@@ -1,6 +1,5 @@
 -- `presetting::preset_of` meets its contract: what was written, in numbers.
 use mathlib.Core.Path.{ap, ◌∙◌}
-use borrow.Author.Rules.{rules}
 use Rattle.presetting.specs.Presetting.{preset_bits_of}
 use Rattle.presetting.proofs.preset_of.Goals as goal
 

@@ -1,5 +1,4 @@
 -- `presetting::preset_step` meets its contract: a preset was read, or refused.
-use borrow.Author.Rules.{rules}
 use Rattle.presetting.proofs.PresetLaws.{preset_read_is, preset_refused_is}
 use Rattle.presetting.proofs.preset_step.Goals as goal
 

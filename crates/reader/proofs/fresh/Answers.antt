@@ -1,5 +1,4 @@
 -- `reader::fresh` meets its contract: everything off.
-use borrow.Author.Rules.{rules}
 use Rattle.reader.proofs.fresh.Goals as goal
 
 pub returns : goal.returns

@@ -1,6 +1,5 @@
 -- `reader::in_range` meets its contract: code and definition are one expression.
 use Rattle.reader.specs.State.{state_in_range}
-use borrow.Author.Rules.{rules}
 use Rattle.reader.proofs.in_range.Goals as goal
 
 pub returns : goal.returns

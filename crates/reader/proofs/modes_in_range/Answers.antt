@@ -4,7 +4,6 @@ use mathlib.Core.Bool.{true, ◌&&◌, and_self}
 use Rattle.modes.specs.Modes.{same_mode, in_range}
 use Rattle.modes.specs.declared.Mode.{Mode}
 use Rattle.modes.proofs.ModeLaws.{same-mode}
-use borrow.Author.Rules.{rules}
 use Rattle.reader.proofs.modes_in_range.Goals as goal
 
 one-mode : (m k : Mode) → same_mode k m ≡ true → in_range m ≡ (in_range m && in_range k)

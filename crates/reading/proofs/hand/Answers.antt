@@ -9,7 +9,6 @@ use Rattle.buffers.specs.Buffers.{Each, Buffers, each, lengths}
 use Rattle.buffers.specs.Lengths.{zeroed, fitting}
 use Rattle.buffers.proofs.LengthLaws.{same_each, fit-lengths}
 use Rattle.sorter.specs.Sorting.{streams_of, buffers_after}
-use borrow.Author.Rules.{rules}
 use Rattle.reading.proofs.hand.Goals as goal
 
 -- buffers that fit and were cleared

@@ -3,7 +3,6 @@ use mathlib.Core.Path.{sym, ◌∙◌}
 use Rattle.reading.specs.Step.{look_of}
 use Rattle.reading.proofs.OutcomeLaws.{taken}
 use Rattle.reader.proofs.StateLaws.{kept}
-use borrow.Author.Rules.{rules}
 use Rattle.reading.proofs.look.Goals as goal
 
 pub step-stepped-requires : goal.step-stepped-requires

@@ -3,7 +3,6 @@ use mathlib.Core.Path.{sym, ◌∙◌}
 use Rattle.buffers.specs.Buffers.{each}
 use Rattle.reading.proofs.OutcomeLaws.{taken, taken-fitting, refused_is, taken_is}
 use Rattle.reader.proofs.StateLaws.{kept}
-use borrow.Author.Rules.{rules}
 use Rattle.reading.proofs.read.Goals as goal
 
 pub step-stepped-requires : goal.step-stepped-requires

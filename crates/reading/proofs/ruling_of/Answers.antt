@@ -1,5 +1,4 @@
 -- `reading::ruling_of` meets its contract: its rows, judged in turn.
-use borrow.Author.Rules.{rules}
 use Rattle.refusals.proofs.RowLaws.{in_turn_is}
 use Rattle.buffers.specs.Buffers.{each}
 use Rattle.reading.specs.Refusals.{rows, ruling_of}

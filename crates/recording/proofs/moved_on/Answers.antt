@@ -1,5 +1,4 @@
 -- `recording::moved_on` meets its contract: by the reader's answer.
-use borrow.Author.Rules.{rules}
 use Rattle.recording.proofs.moved_on.Goals as goal
 
 pub returns-in-Block : goal.returns-in-Block

@@ -1,7 +1,6 @@
 -- `recording::off_by_ruling` meets its contract: by its ruling.
 use mathlib.Core.Path.{sym, ◌∙◌}
 use lib.ListN.{length}
-use borrow.Author.Rules.{rules}
 use Rattle.recording.proofs.StepLaws.{goes, off_here}
 use Rattle.recording.proofs.off_by_ruling.Goals as goal
 

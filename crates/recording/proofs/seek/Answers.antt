@@ -1,5 +1,4 @@
 -- `recording::seek` meets its contract: a place was found, or the search was refused.
-use borrow.Author.Rules.{rules}
 use Rattle.recording.proofs.seek.Goals as goal
 
 pub returns-in-Place : goal.returns-in-Place

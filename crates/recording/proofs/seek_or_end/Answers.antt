@@ -1,5 +1,4 @@
 -- `recording::seek_or_end` meets its contract: the block before was lost, or too few octets are left.
-use borrow.Author.Rules.{rules}
 use Rattle.recording.proofs.seek_or_end.Goals as goal
 
 pub returns-then-lost : goal.returns-then-lost

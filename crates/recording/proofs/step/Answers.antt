@@ -2,7 +2,6 @@
 use mathlib.Core.Path.{sym, ◌∙◌}
 use Prim.Native.Nat.{◌+◌, ◌-◌}
 use native.Mathlib.Omega.{arith}
-use borrow.Author.Rules.{rules}
 use Rattle.buffers.specs.Buffers.{each}
 use Rattle.buffers.specs.Lengths.{line_octets}
 use Rattle.recording.proofs.StepLaws.{lent-block, Met, met, block-stepped, off-stepped}

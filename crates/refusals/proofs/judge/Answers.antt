@@ -1,5 +1,4 @@
 -- `refusals::judge` meets its contract: a refusal stays, and else the row decides.
-use borrow.Author.Rules.{rules}
 use Rattle.refusals.specs.Rows.{judged}
 use Rattle.refusals.proofs.judge.Goals as goal
 

@@ -1,6 +1,5 @@
 -- `saving::load_reader` meets its contract: the octets are a form, or they are none.
 use mathlib.Core.Path.{sym, ◌∙◌}
-use borrow.Author.Rules.{rules}
 use Rattle.saving.proofs.load_reader.Goals as goal
 
 pub returns-then-is_reader_form : goal.returns-then-is_reader_form

@@ -1,6 +1,5 @@
 -- `saving::load_sender` meets its contract: the octets are a form, or they are none.
 use mathlib.Core.Path.{sym, ◌∙◌}
-use borrow.Author.Rules.{rules}
 use Rattle.saving.proofs.load_sender.Goals as goal
 
 pub returns-then-is_sender_form : goal.returns-then-is_sender_form

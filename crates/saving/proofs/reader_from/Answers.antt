@@ -1,5 +1,4 @@
 -- `saving::reader_from` meets its contract: each field is the octet that `octet_of` gives.
-use borrow.Author.Rules.{rules}
 use Rattle.saving.proofs.reader_from.Goals as goal
 
 pub returns : goal.returns

@@ -1,6 +1,5 @@
 -- `saving::save` meets its contract: the form fills the buffer, or the buffer is left.
 use mathlib.Core.Path.{refl}
-use borrow.Author.Rules.{rules}
 use borrow.Author.Tests.{eq-eqb, ne_eqb}
 use Rattle.saving.proofs.SavedLaws.{written-whole}
 use Rattle.saving.proofs.save.Goals as goal

@@ -1,5 +1,4 @@
 -- `saving::sender_from` meets its contract: each field is the octet that `octet_of` gives.
-use borrow.Author.Rules.{rules}
 use Rattle.saving.proofs.sender_from.Goals as goal
 
 pub returns : goal.returns

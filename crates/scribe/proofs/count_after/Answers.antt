@@ -1,5 +1,4 @@
 -- `scribe::count_after` meets its contract: a block counts, and nothing else.
-use borrow.Author.Rules.{rules}
 use Rattle.scribe.proofs.count_after.Goals as goal
 
 pub returns-in-Block : goal.returns-in-Block

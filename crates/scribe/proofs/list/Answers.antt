@@ -5,7 +5,6 @@ use Rattle.text.specs.Words.{text_of}
 use Rattle.text.proofs.OverLaws.{written_then, written_bound}
 use Rattle.search.proofs.PlaceLaws.{found-fits, found-small}
 use Rattle.scribe.specs.Listing.{listing_of}
-use borrow.Author.Rules.{rules}
 use Rattle.scribe.proofs.list.Goals as goal
 
 pub put_walk-requires : goal.put_walk-requires

@@ -1,11 +1,10 @@
 -- `scribe::put_walk` meets its contract: after `turn` turns of the loop, what they wrote stands in the text (`Going`).
-use borrow.Author.Rules.{rules}
 use native.Mathlib.Omega.{arith}
 use mathlib.Core.Path.{sym, ◌∙◌}
 use Prim.Native.Nat.{◌-◌}
 use lib.ListN.{length}
 use Rattle.text.proofs.OverLaws.{written-length}
-use Rattle.scribe.proofs.ListingLaws.{Going, begins, over, ends, goes_on}
+use Rattle.scribe.proofs.ListingLaws.{begins, over, ends, goes_on}
 use Rattle.scribe.proofs.put_walk.Goals as goal
 
 pub loop-turn-init : goal.loop-turn-init

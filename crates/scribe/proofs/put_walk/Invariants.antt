@@ -1,11 +1,7 @@
 -- `scribe::put_walk` meets its contract: after `turn` turns of the loop, what they wrote stands in the text (`Going`).
-use borrow.Author.Rules.{rules}
-use native.Mathlib.Omega.{arith}
-use mathlib.Core.Path.{sym, ◌∙◌}
 use Prim.Native.Nat.{◌-◌}
 use lib.ListN.{length}
-use Rattle.text.proofs.OverLaws.{written-length}
-use Rattle.scribe.proofs.ListingLaws.{Going, begins, over, ends, goes_on}
+use Rattle.scribe.proofs.ListingLaws.{Going}
 use Rattle.scribe.proofs.put_walk.Given as goal
 
 abbrev pub invariant-loop-turn : goal.invariant-loop-turn

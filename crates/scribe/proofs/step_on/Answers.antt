@@ -1,7 +1,6 @@
 -- `scribe::step_on` meets its contract: no row refuses the look.
 use mathlib.Core.Path.{refl, ◌∙◌}
 use Rattle.recording.proofs.StepLaws.{look_here}
-use borrow.Author.Rules.{rules}
 use Rattle.scribe.proofs.step_on.Goals as goal
 
 pub returns : goal.returns

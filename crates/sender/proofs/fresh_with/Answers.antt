@@ -1,5 +1,4 @@
 -- `sender::fresh_with` meets its contract: everything off but the chosen audio.
-use borrow.Author.Rules.{rules}
 use Rattle.sender.proofs.fresh_with.Goals as goal
 
 pub returns : goal.returns

@@ -6,7 +6,6 @@ use Rattle.control.proofs.GoesLaws.{decision_ruling, goes-fitting}
 use Rattle.control.specs.declared.Decision.{Decision}
 use Rattle.sending.specs.Step.{block_for}
 use Rattle.sending.proofs.OutcomeLaws.{told_refused, told_went}
-use borrow.Author.Rules.{rules}
 use Rattle.sending.proofs.send.Goals as goal
 
 pub returns-in-Refuse : goal.returns-in-Refuse

@@ -1,7 +1,6 @@
 -- `service::bas_word` meets its contract: the law of the word, at what its callees ensure.
 use mathlib.Core.Path.{◌∙◌}
 use Rattle.service.proofs.ChannelLaws.{word_is}
-use borrow.Author.Rules.{rules}
 use Rattle.service.proofs.bas_word.Goals as goal
 
 pub returns : goal.returns

@@ -3,7 +3,6 @@ use mathlib.Core.Path.{ap, ◌∙◌}
 use Prim.Native.Nat.{ℕ, ◌%◌}
 use Rattle.service.specs.Channel.{c_bits}
 use Rattle.service.proofs.ChannelLaws.{last_of}
-use borrow.Author.Rules.{rules}
 use Rattle.service.proofs.c_bits.Goals as goal
 
 pub returns : goal.returns

@@ -1,7 +1,6 @@
 -- `service::odd_first` meets its contract: one SC bit.
 use Rattle.bits.proofs.BoolLaws.{bit-back}
 use Rattle.service.specs.Channel.{odd_first}
-use borrow.Author.Rules.{rules}
 use Rattle.service.proofs.odd_first.Goals as goal
 
 pub returns : goal.returns

@@ -5,7 +5,6 @@ use native.Mathlib.Omega.{arith}
 use lib.ListN.{length}
 use borrow.Author.Tests.{le-leb}
 use Rattle.service.proofs.RowLaws.{row_is}
-use borrow.Author.Rules.{rules}
 use Rattle.service.proofs.row_at.Goals as goal
 
 pub returns : goal.returns

@@ -1,10 +1,8 @@
 -- `service::row_in_turn` meets its contract: the loop's invariant: the row is the number of the bits passed.
-use mathlib.Core.Path.{◌≡◌, refl, ap, ap₂, ◌∙◌}
-use Prim.Native.Nat.{ℕ, ◌+◌, ◌-◌, ◌*◌, ◌≤◌}
-use native.Mathlib.Omega.{arith}
+use mathlib.Core.Path.{◌≡◌}
+use Prim.Native.Nat.{◌-◌, ◌≤◌}
 use Rattle.bits.specs.Bits.{number}
 use Rattle.service.specs.Channel.{channel_bits}
-use Rattle.service.proofs.ChannelLaws.{channel_turn, channel_small}
 use Rattle.service.proofs.row_in_turn.Given as goal
 
 abbrev pub invariant-loop-i : goal.invariant-loop-i

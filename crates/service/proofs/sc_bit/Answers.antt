@@ -4,7 +4,6 @@ use native.Mathlib.Omega.{arith}
 use lib.ListN.{get_or-eq_default}
 use Rattle.bits.specs.Bits.{odd, low_bits, sc_bit, digit}
 use Rattle.bits.proofs.BitLaws.{digit-odd, sc_is}
-use borrow.Author.Rules.{rules}
 use Rattle.service.proofs.sc_bit.Goals as goal
 
 pub returns-then-at-line : goal.returns-then-at-line

@@ -1,7 +1,6 @@
 -- `service::wrong_bits` meets its contract: the law of the alignment word, at what its callees ensure.
 use mathlib.Core.Path.{◌∙◌}
 use Rattle.service.proofs.ChannelLaws.{wrong_are}
-use borrow.Author.Rules.{rules}
 use Rattle.service.proofs.wrong_bits.Goals as goal
 
 pub returns : goal.returns

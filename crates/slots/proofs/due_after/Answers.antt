@@ -1,7 +1,6 @@
 -- `slots::due_after` meets its contract: a case for each kind of slot, and a message over apart.
 use borrow.Author.Tests.{eq-eqb, ne_eqb}
 use Rattle.slots.specs.Slots.{due_after}
-use borrow.Author.Rules.{rules}
 use Rattle.slots.proofs.due_after.Goals as goal
 
 pub returns-then-left-eq0 : goal.returns-then-left-eq0

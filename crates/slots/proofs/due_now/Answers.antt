@@ -1,5 +1,4 @@
 -- `slots::due_now` meets its contract: a case for each kind of slot.
-use borrow.Author.Rules.{rules}
 use Rattle.slots.proofs.due_now.Goals as goal
 
 pub returns-in-Words : goal.returns-in-Words

@@ -1,5 +1,4 @@
 -- `slots::opening_in` meets its contract: a case for a code, and one for none.
-use borrow.Author.Rules.{rules}
 use Rattle.slots.proofs.opening_in.Goals as goal
 
 pub returns-in-Code : goal.returns-in-Code

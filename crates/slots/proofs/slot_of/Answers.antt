@@ -1,5 +1,4 @@
 -- `slots::slot_of` meets its contract: a case for each kind of slot.
-use borrow.Author.Rules.{rules}
 use Rattle.slots.proofs.slot_of.Goals as goal
 
 pub returns-in-Plain : goal.returns-in-Plain

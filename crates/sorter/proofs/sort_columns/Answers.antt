@@ -1,6 +1,5 @@
 -- `sorter::sort_columns` meets its contract: all octets are gone through from a buffer of zeros on.
 use mathlib.Core.Path.{refl, ◌∙◌}
-use mathlib.Core.List.{[]}
 use lib.ListN.{length}
 use Rattle.packing.proofs.FillLaws.{cleared, filled_with}
 use Rattle.sorter.proofs.sort_columns.Goals as goal

@@ -4,7 +4,6 @@ use Prim.Native.Nat.{◌<◌}
 use Rattle.bits.proofs.Table.{entry}
 use Rattle.table.specs.Table.{audio_table, beside, audio_places}
 use Rattle.table.proofs.TableLaws.{audio_past, audio_entry, audio-listed, audio_not_listed}
-use borrow.Author.Rules.{rules}
 use Rattle.table.proofs.audio_places.Goals as goal
 
 pub returns-then-w-lt8 : goal.returns-then-w-lt8

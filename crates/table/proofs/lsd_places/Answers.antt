@@ -1,13 +1,12 @@
 -- `table::lsd_places` meets its contract: the source's table is that of the definition's entries, which antt computes.
 use mathlib.Core.Path.{sym, ap, ◌∙◌}
-use mathlib.Core.List.{List, []}
+use mathlib.Core.List.{List}
 use Prim.Native.Nat.{ℕ, ◌<◌}
 use lib.ListN.{get_or}
 use Rattle.bits.proofs.Table.{entry}
 use Rattle.numbers.specs.Numbers.{octet}
 use Rattle.table.specs.Table.{lsd_table, beside, bits_and_sc, lsd_places}
 use Rattle.table.proofs.TableLaws.{lsd_past, lsd_entry, lsd-said}
-use borrow.Author.Rules.{rules}
 use Rattle.table.proofs.lsd_places.Goals as goal
 
 pub returns-then-v-lt15 : goal.returns-then-v-lt15

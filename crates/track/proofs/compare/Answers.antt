@@ -1,6 +1,5 @@
 -- `track::compare` meets its contract: the third wrong one in a row, or not.
 use borrow.Author.Tests.{eq-eqb, ne_eqb}
-use borrow.Author.Rules.{rules}
 use Rattle.track.proofs.compare.Goals as goal
 
 pub returns-then-missed-eq3 : goal.returns-then-missed-eq3

@@ -1,6 +1,5 @@
 -- `track::due_read` meets its contract: the place is known, or not.
 use borrow.Author.Tests.{eq-eqb, ne_eqb}
-use borrow.Author.Rules.{rules}
 use Rattle.track.proofs.due_read.Goals as goal
 
 pub returns-then-block-eq0 : goal.returns-then-block-eq0

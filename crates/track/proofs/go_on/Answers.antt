@@ -1,5 +1,4 @@
 -- `track::go_on` meets its contract: the answer and the state, each by its function.
-use borrow.Author.Rules.{rules}
 use Rattle.track.proofs.go_on.Goals as goal
 
 pub returns : goal.returns

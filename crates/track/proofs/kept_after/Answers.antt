@@ -1,6 +1,5 @@
 -- `track::kept_after` meets its contract: the alignment word is right, or not.
 use borrow.Author.Tests.{eq-eqb, ne_eqb}
-use borrow.Author.Rules.{rules}
 use Rattle.track.proofs.kept_after.Goals as goal
 
 pub returns-then-wrong-eq0 : goal.returns-then-wrong-eq0

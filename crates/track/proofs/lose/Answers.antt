@@ -1,5 +1,4 @@
 -- `track::lose` meets its contract: the fresh state in the mode before.
-use borrow.Author.Rules.{rules}
 use Rattle.track.proofs.lose.Goals as goal
 
 pub returns : goal.returns

@@ -1,7 +1,6 @@
 -- `track::multiframe_after` meets its contract: the place is unknown, after block 6, or after another.
 use borrow.Author.Tests.{eq-eqb, ne_eqb}
 use Rattle.track.specs.Parts.{multiframe_after}
-use borrow.Author.Rules.{rules}
 use Rattle.track.proofs.multiframe_after.Goals as goal
 
 pub returns-then-right : goal.returns-then-right

@@ -1,6 +1,5 @@
 -- `track::next_of` meets its contract: each field by its own definition.
 use Rattle.track.specs.Step.{next_of}
-use borrow.Author.Rules.{rules}
 use Rattle.track.proofs.next_of.Goals as goal
 
 pub returns : goal.returns

@@ -1,6 +1,5 @@
 -- `track::report_of` meets its contract: three readings of the state and the block.
 use Rattle.track.specs.Step.{report_of}
-use borrow.Author.Rules.{rules}
 use Rattle.track.proofs.report_of.Goals as goal
 
 pub returns : goal.returns

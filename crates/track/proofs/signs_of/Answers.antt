@@ -1,5 +1,4 @@
 -- `track::signs_of` meets its contract: four readings of the block, and what has been counted.
-use borrow.Author.Rules.{rules}
 use Rattle.track.proofs.signs_of.Goals as goal
 
 pub returns : goal.returns

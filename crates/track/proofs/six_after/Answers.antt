@@ -1,6 +1,5 @@
 -- `track::six_after` meets its contract: the new bit is 1, or 0.
 use native.Mathlib.Omega.{arith}
-use borrow.Author.Rules.{rules}
 use Rattle.track.proofs.six_after.Goals as goal
 
 pub returns-then-first : goal.returns-then-first

@@ -1,7 +1,6 @@
 -- `track::step` meets its contract: the third wrong alignment word in a row, or not.
 use borrow.Author.Tests.{eq-eqb, ne_eqb}
 use Rattle.track.specs.Step.{step_of}
-use borrow.Author.Rules.{rules}
 use Rattle.track.proofs.step.Goals as goal
 
 pub returns-then-run-eq3 : goal.returns-then-run-eq3

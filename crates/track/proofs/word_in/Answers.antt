@@ -1,6 +1,5 @@
 -- `track::word_in` meets its contract: at most two wrong bits, or more.
 use borrow.Author.Tests.{le-leb, lt-leb}
-use borrow.Author.Rules.{rules}
 use Rattle.track.proofs.word_in.Goals as goal
 
 pub returns-then-wrong-le2 : goal.returns-then-wrong-le2

@@ -1,6 +1,5 @@
 -- `wording::put_answer` meets its contract: a line for each answer.
 use Rattle.text.specs.Words.{text_of}
-use borrow.Author.Rules.{rules}
 use Rattle.wording.proofs.put_answer.Goals as goal
 
 pub returns-in-Block : goal.returns-in-Block

@@ -2,7 +2,6 @@
 use Rattle.text.specs.Words.{text_of}
 use Rattle.text.proofs.OverLaws.{written_then}
 use Rattle.wording.specs.Lines.{block_line}
-use borrow.Author.Rules.{rules}
 use Rattle.wording.proofs.put_block.Goals as goal
 
 pub returns : goal.returns

@@ -4,7 +4,6 @@ use mathlib.Core.Logic.{⊎_elim}
 use Rattle.digits.specs.Digits.{hex_of}
 use Rattle.text.specs.Words.{text_of}
 use Rattle.wording.specs.Lines.{code_text}
-use borrow.Author.Rules.{rules}
 use Rattle.wording.proofs.put_code.Goals as goal
 
 pub returns-in-Unreadable : goal.returns-in-Unreadable

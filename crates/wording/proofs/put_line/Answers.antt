@@ -1,7 +1,6 @@
 -- `wording::put_line` meets its contract: three pieces.
 use Rattle.text.specs.Words.{text_of}
 use Rattle.text.proofs.OverLaws.{written_then}
-use borrow.Author.Rules.{rules}
 use Rattle.wording.proofs.put_line.Goals as goal
 
 pub returns : goal.returns

@@ -1,6 +1,5 @@
 -- `wording::put_standing` meets its contract: a word for each standing.
 use Rattle.text.specs.Words.{text_of}
-use borrow.Author.Rules.{rules}
 use Rattle.wording.proofs.put_standing.Goals as goal
 
 pub returns-in-Waiting : goal.returns-in-Waiting

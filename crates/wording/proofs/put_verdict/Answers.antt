@@ -1,6 +1,5 @@
 -- `wording::put_verdict` meets its contract: a word for each verdict.
 use Rattle.text.specs.Words.{text_of}
-use borrow.Author.Rules.{rules}
 use Rattle.wording.proofs.put_verdict.Goals as goal
 
 pub returns-in-None : goal.returns-in-None

@@ -1,5 +1,4 @@
 -- `words::code_reading` meets its contract: a case for each kind of slot.
-use borrow.Author.Rules.{rules}
 use Rattle.words.proofs.code_reading.Goals as goal
 
 pub returns-in-Plain : goal.returns-in-Plain

@@ -1,6 +1,5 @@
 -- `words::obey` meets its contract: a case for each reading.
 use Rattle.words.specs.Readings.{obeyed}
-use borrow.Author.Rules.{rules}
 use Rattle.words.proofs.obey.Goals as goal
 
 pub returns-in-Mended : goal.returns-in-Mended

@@ -1,6 +1,5 @@
 -- `words::plain_reading` meets its contract: each return by its test.
 use mathlib.Core.Path.{sym}
-use borrow.Author.Rules.{rules}
 use Rattle.words.proofs.plain_reading.Goals as goal
 
 pub returns-then-code-carried : goal.returns-then-code-carried

@@ -1,6 +1,5 @@
 -- `words::reading_in` meets its contract: a case for a code, and one for none.
 use Rattle.words.specs.Readings.{reading_in}
-use borrow.Author.Rules.{rules}
 use Rattle.words.proofs.reading_in.Goals as goal
 
 pub returns-in-Code : goal.returns-in-Code
