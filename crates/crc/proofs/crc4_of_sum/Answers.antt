@@ -1,6 +1,6 @@
 -- `crc::crc4_of_sum` meets its contract: it is the law of what a sum leaves, at the answers of the two calls.
 use mathlib.Core.Path.{ap, ◌∙◌}
-use mathlib.Core.List.{◌∷◌}
+use mathlib.Core.List.{[], ◌∷◌}
 use Prim.Native.Nat.{ℕ, ◌%◌, ◌^◌}
 use borrow.Author.Rules.{rules}
 use Rattle.crc.specs.Crc.{crc4_from}

@@ -1,4 +1,5 @@
 -- `sorter::sort_columns` meets its contract: all octets are gone through from a buffer of zeros on.
+use mathlib.Core.List.{[]}
 use mathlib.Core.Path.{refl, ◌∙◌}
 use lib.ListN.{length}
 use Rattle.packing.proofs.FillLaws.{cleared, filled_with}

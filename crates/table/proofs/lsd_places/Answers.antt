@@ -1,6 +1,6 @@
 -- `table::lsd_places` meets its contract: the source's table is that of the definition's entries, which antt computes.
 use mathlib.Core.Path.{sym, ap, ◌∙◌}
-use mathlib.Core.List.{List}
+use mathlib.Core.List.{[], List}
 use Prim.Native.Nat.{ℕ, ◌<◌}
 use lib.ListN.{get_or}
 use Rattle.bits.proofs.Table.{entry}
