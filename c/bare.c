@@ -1,5 +1,5 @@
-/* A driver without a C library or an operating system, which sends one block again and again. memset is all that the archive needs beside
- * itself. tools/ctest links it with nothing else, and tools/stack measures what of the library it links. */
+/* A driver without a C library or an operating system, which sends one block again and again. memset and memcpy are all that the archive needs
+ * beside itself. tools/ctest links it with nothing else, and tools/stack measures what of the library it links. */
 #include "delampuk.h"
 
 void *memset(void *at, int octet, size_t length) {
@@ -8,6 +8,13 @@ void *memset(void *at, int octet, size_t length) {
     for (size_t i = 0; i < length; i++)
         octets[i] = (uint8_t)octet;
     return at;
+}
+
+void *memcpy(void *restrict to, const void *restrict from, size_t length) {
+    volatile uint8_t *octets = (volatile uint8_t *)to;
+    for (size_t i = 0; i < length; i++)
+        octets[i] = ((const uint8_t *)from)[i];
+    return to;
 }
 
 /* The line unit's registers. */

@@ -5,8 +5,8 @@
  * Compile as C11 or C++11 and link libdelampuk.a, which `sh tools/native` writes: target/staticlib/libdelampuk.a for x86-64, and
  * target/native/libdelampuk.a for this machine's processor. The library allocates nothing, has no global data, keeps no pointer after a
  * call and never stops the program: every number and every length has an answer, and a call that cannot be done is refused with a
- * number. Calls on states and buffers that are not shared may run at the same time. Beside itself the archive needs one function,
- * memset as C has it, and no operating system.
+ * number. Calls on states and buffers that are not shared may run at the same time. Beside itself the archive needs two functions,
+ * memset and memcpy as C has them, and no operating system.
  *
  * A driver asks first whether it was compiled with the header of the archive that it is linked with; another archive may have other
  * structs:
