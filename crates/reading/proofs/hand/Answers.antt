@@ -9,6 +9,7 @@ use Rattle.buffers.specs.Buffers.{Each, Buffers, each, lengths}
 use Rattle.buffers.specs.Lengths.{zeroed, fitting}
 use Rattle.buffers.proofs.LengthLaws.{same_each, fit-lengths}
 use Rattle.sorter.specs.Sorting.{streams_of, buffers_after}
+use borrow.Author.Rules.{rules}
 use Rattle.reading.proofs.hand.Goals as goal
 
 -- buffers that fit and were cleared
@@ -21,16 +22,10 @@ unfolding buffers_after
 sorted m line b after f e = e ∙ rw f
 
 pub returns-in-Waiting : goal.returns-in-Waiting
-returns-in-Waiting c =
-    rw c.in-Waiting.is
-    (zeros _ _ _ _ c.requires c.clear.ensures c.clear-in-Waiting.ensures)
+returns-in-Waiting c = rw c.in-Waiting.is (search (rules, zeros))
 
 pub returns-in-Read : goal.returns-in-Read
-returns-in-Read c =
-    rw c.in-Read.is
-    (sorted _ _ _ _ c.requires c.hand_out.ensures.1)
+returns-in-Read c = rw c.in-Read.is (search (rules, sorted))
 
 pub returns-in-Lost : goal.returns-in-Lost
-returns-in-Lost c =
-    rw c.in-Lost.is
-    (zeros _ _ _ _ c.requires c.clear-in-Lost.ensures c.clear-in-Lost-2.ensures)
+returns-in-Lost c = rw c.in-Lost.is (search (rules, zeros))
