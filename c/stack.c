@@ -8,7 +8,7 @@
 #include <string.h>
 #include <ucontext.h>
 
-enum { STACK = 1 << 13, PAINT = 0xA7, BLOCKS = 24, HARMED = 10, LENGTH = BLOCKS * DELAMPUK_OCTETS_LINE };
+enum { STACK = 1 << 13, PAINT = 0xA7, BLOCKS = 40, HARMED = 10, WRONG = 18, LENGTH = BLOCKS * DELAMPUK_OCTETS_LINE };
 
 static uint8_t stack[STACK], voice[DELAMPUK_OCTETS_VOICE], lsd[DELAMPUK_OCTETS_LSD], line[DELAMPUK_OCTETS_LINE], recording[LENGTH];
 static uint8_t text[DELAMPUK_OCTETS_LISTING], saved[DELAMPUK_OCTETS_SAVED_WALK], mute, code;
@@ -80,14 +80,14 @@ static void measure_all(void) {
     }
 }
 
-/* Blocks of a session, three of them with a wrong alignment word. */
+/* Blocks of a session, of which so many in a row have a wrong alignment word that the search after the loss passes 2,048 places at once. */
 static void record(void) {
     struct delampuk_sender state;
     delampuk_start_sender(&state);
     for (int i = 0; i < BLOCKS; i++) {
         uint8_t *block = recording + i * DELAMPUK_OCTETS_LINE;
         delampuk_send(&state, 0, 0x80, 0, 0, 0, voice, sizeof voice, lsd, sizeof lsd, block, DELAMPUK_OCTETS_LINE);
-        block[1] ^= i >= HARMED && i < HARMED + 3;
+        block[1] ^= i >= HARMED && i < HARMED + WRONG;
     }
 }
 
