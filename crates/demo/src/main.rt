@@ -10,7 +10,7 @@ use modes::{Mode, Owner};
 use reader::Reader;
 use sender::Sender;
 use std::alloc::Global;
-use std::io;
+use std::{fmt, io};
 use track::Report;
 use words::Reading;
 
@@ -46,6 +46,19 @@ struct Heard {
     off: Option<usize>,
 }
 
+// The word that a line says, as it is printed.
+#[derive(Clone, Copy)]
+struct Said(Word);
+
+impl fmt::Display for Said {
+    fn fmt<W: fmt::Write>(&self, f: &mut fmt::Formatter<W>) -> fmt::Result {
+        match self.0 {
+            Word::Code(code) => write!(f, "{code:02X}"),
+            Word::Unreadable => write!(f, "--"),
+        }
+    }
+}
+
 // How many octets of voice a block has under a mode: 20 for each bit that the audio in force holds.
 fn voice_octets(mode: Mode) -> usize {
     usize::from(modes::bits_per_frame(mode, Owner::Voice) / 4)
@@ -77,7 +90,7 @@ fn voice_places(mode: Mode, line: &[u8]) -> &'static str {
 // A call's row: what it found, what became of it, and its block with the word in it, read back as
 // the far end reads it.
 fn tell(
-    rt: &(impl Print + AllocGlobal),
+    rt: &impl Print,
     block: usize,
     found: Sender,
     call: Call,
@@ -97,10 +110,7 @@ fn tell(
             );
         }
     };
-    let word = match bas::read_word(service::bas_word(line)) {
-        Word::Code(word) => format!(in rt.alloc(); "{word:02X}")?,
-        Word::Unreadable => String::from_str(rt.alloc(), "--")?,
-    };
+    let word = Said(bas::read_word(service::bas_word(line)));
     let places = voice_places(found.mode, line);
     println!(rt; "{block:>5}  {mute:<7}{code:02X}       {became:<17}{word}           {places}")
 }
@@ -119,7 +129,7 @@ impl Lesson {
 
     // One call, made with the same voice and data each time, and told; a refused one writes no
     // block.
-    fn step(&mut self, rt: &(impl Print + AllocGlobal), mute: bool, code: u8) -> io::Result<()> {
+    fn step(&mut self, rt: &impl Print, mute: bool, code: u8) -> io::Result<()> {
         let mut line = [0u8; buffers::LINE];
         let voice = [MICROPHONE; buffers::VOICE];
         let lsd = [51u8; buffers::LSD];
@@ -141,12 +151,7 @@ impl Lesson {
     }
 
     // Calls one after the other, mute set or clear in all of them. How many blocks there are then.
-    fn steps(
-        &mut self,
-        rt: &(impl Print + AllocGlobal),
-        mute: bool,
-        codes: &[u8],
-    ) -> io::Result<usize> {
+    fn steps(&mut self, rt: &impl Print, mute: bool, codes: &[u8]) -> io::Result<usize> {
         for code in codes {
             self.step(rt, mute, *code)?;
         }

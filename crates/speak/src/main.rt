@@ -144,83 +144,64 @@ fn voice_under(rt: &impl Input, mode: Mode, mute: bool) -> Result<[u8; buffers::
     Ok(voice)
 }
 
-// The line of a call that the session made, written at once, so that it stays whole beside those of
-// another program.
-fn tell_call(err: &impl Print, session: Session, code: u8, answer: Answer, went: u8) {
-    let number = session.number;
-    let told = Told {
-        answer,
-        block: session.state.block.0,
-        went,
-    };
-    let _ = println!(err; "call {number}: {code:02X} {told}");
-}
+impl Session {
+    // The line of a call that was made, written at once, so that it stays whole beside those of
+    // another program.
+    fn tell(&self, rt: &impl Eprint, code: u8, answer: Answer, went: u8) {
+        let number = self.number;
+        let told = Told {
+            answer,
+            block: self.state.block.0,
+            went,
+        };
+        let _ = eprintln!(rt; "call {number}: {code:02X} {told}");
+    }
 
-// The session after a call.
-fn followed(session: Session, state: Sender) -> Session {
-    Session {
-        state,
-        number: session.number.wrapping_add(1),
+    // Goes on to the next call, which finds this state.
+    fn go_on(&mut self, state: Sender) {
+        self.state = state;
+        self.number = self.number.wrapping_add(1);
+    }
+
+    // A call that is accepted: its voice is taken, and its block written. Where its voice cannot be
+    // read, nothing is written.
+    fn frame(&mut self, rt: &(impl Input + Print + Eprint), call: Call) -> Result<(), Stop> {
+        let mut line = [0u8; buffers::LINE];
+        let lsd = [0u8; buffers::LSD];
+        let voice = voice_under(rt, self.state.mode, call.mute)?;
+        let outcome = sending::send(self.state, call, &voice, &lsd, &mut line);
+        rt.write_all(&line).map_err(|_| Stop::Unwritten)?;
+        self.tell(rt, call.code, outcome.answer, outcome.state.mode.audio);
+        self.go_on(outcome.state);
+        Ok(())
+    }
+
+    // One call. It is tried with silence first, since a refused one takes no voice.
+    fn make(&mut self, rt: &(impl Input + Print + Eprint), call: Call) -> Result<(), Stop> {
+        let mut line = [0u8; buffers::LINE];
+        let silence = [0u8; buffers::VOICE];
+        let lsd = [0u8; buffers::LSD];
+        let trial = sending::send(self.state, call, &silence, &lsd, &mut line);
+        if let Answer::Refused(_) = trial.answer {
+            self.tell(rt, call.code, trial.answer, 0);
+            self.go_on(self.state);
+            return Ok(());
+        }
+        self.frame(rt, call)
+    }
+
+    // A call, repeated as its word says.
+    fn repeat(&mut self, rt: &(impl Input + Print + Eprint), word: Word) -> Result<(), Stop> {
+        for _ in 0..word.times {
+            self.make(rt, word.call)?;
+        }
+        Ok(())
     }
 }
 
-// A call that is accepted: its voice is taken, and its block written. Where its voice cannot be
-// read, nothing is written.
-fn accepted(
-    rt: &(impl Input + Print),
-    err: &impl Print,
-    session: Session,
-    call: Call,
-) -> Result<Session, Stop> {
-    let mut line = [0u8; buffers::LINE];
-    let lsd = [0u8; buffers::LSD];
-    let voice = voice_under(rt, session.state.mode, call.mute)?;
-    let outcome = sending::send(session.state, call, &voice, &lsd, &mut line);
-    rt.write_all(&line).map_err(|_| Stop::Unwritten)?;
-    tell_call(
-        err,
-        session,
-        call.code,
-        outcome.answer,
-        outcome.state.mode.audio,
-    );
-    Ok(followed(session, outcome.state))
-}
-
-// One call. It is tried with silence first, since a refused one takes no voice.
-fn made(
-    rt: &(impl Input + Print),
-    err: &impl Print,
-    session: Session,
-    call: Call,
-) -> Result<Session, Stop> {
-    let mut line = [0u8; buffers::LINE];
-    let silence = [0u8; buffers::VOICE];
-    let lsd = [0u8; buffers::LSD];
-    let trial = sending::send(session.state, call, &silence, &lsd, &mut line);
-    if let Answer::Refused(_) = trial.answer {
-        tell_call(err, session, call.code, trial.answer, 0);
-        return Ok(followed(session, session.state));
-    }
-    accepted(rt, err, session, call)
-}
-
-// A call, repeated as its word says.
-fn repeated(
-    rt: &(impl Input + Print),
-    err: &impl Print,
-    mut session: Session,
-    word: Word,
-) -> Result<Session, Stop> {
-    for _ in 0..word.times {
-        session = made(rt, err, session, word.call)?;
-    }
-    Ok(session)
-}
-
-// Makes every call of the arguments. The first blocks may have no voice: a standard input that
-// cannot be read is told before one of them is written.
-fn all_sent(rt: &(impl Env + Input + Print), err: &impl Print, count: usize) -> Result<(), Stop> {
+// Makes every call of the arguments. The first blocks may have no voice: a standard input that cannot
+// be read is told before one of them is written.
+fn all_sent(rt: &(impl Env + Input + Print + Eprint), count: usize) -> Result<(), Stop> {
     if !intake::is_open(&mut rt.reader()) {
         return Err(Stop::Unread);
     }
@@ -229,22 +210,21 @@ fn all_sent(rt: &(impl Env + Input + Print), err: &impl Print, count: usize) -> 
         number: 1,
     };
     for word in (1..count).filter_map(|i| word_at(rt, i)) {
-        session = repeated(rt, err, session, word)?;
+        session.repeat(rt, word)?;
     }
     Ok(())
 }
 
 fn main(rt: HostRuntime) {
-    let err = rt.stderr();
     let count = intake::arg_count(&rt);
     if count < 2 {
-        let _ = println!(err; "speak: no call is given\n{NOTATION}");
+        let _ = eprintln!(rt; "speak: no call is given\n{NOTATION}");
         return;
     }
     // every argument has to be a call; the first that is none is told
     if let Some(i) = (1..count).find(|i| word_at(&rt, *i).is_none()) {
-        tell_wrong(&rt, &err, i);
-    } else if let Err(stop) = all_sent(&rt, &err, count) {
-        let _ = println!(err; "speak: {stop}");
+        tell_wrong(&rt, &rt.stderr(), i);
+    } else if let Err(stop) = all_sent(&rt, count) {
+        let _ = eprintln!(rt; "speak: {stop}");
     }
 }
