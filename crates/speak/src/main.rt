@@ -78,7 +78,7 @@ fn tell_wrong(rt: &impl Env, err: &impl Print, i: usize) {
     let _ = println!(err; "{rest}\" is no call\n{NOTATION}");
 }
 
-// A code is two digits in hex.
+// A code is two digits in hex. They are looked at first, since a sign is no part of a code.
 fn read_code(code: &str) -> Option<u8> {
     if code.len() == 2 && code.bytes().all(|c| c.is_ascii_hexdigit()) {
         u8::from_str_radix(code, 16).ok()
@@ -87,7 +87,7 @@ fn read_code(code: &str) -> Option<u8> {
     }
 }
 
-// A count is 1 to 999, in decimal digits.
+// A count is 1 to 999, in decimal digits and without a sign.
 fn read_count(count: &str) -> Option<u16> {
     if count.bytes().all(|c| c.is_ascii_digit()) {
         count.parse().ok().filter(|n| matches!(n, 1..=999))
