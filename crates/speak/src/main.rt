@@ -199,8 +199,8 @@ impl Session {
     }
 }
 
-// Makes every call of the arguments. The first blocks may have no voice: a standard input that cannot
-// be read is told before one of them is written.
+// Makes every call of the arguments. The first blocks may have no voice: a standard input that
+// cannot be read is told before one of them is written.
 fn all_sent(rt: &(impl Env + Input + Print + Eprint), count: usize) -> Result<(), Stop> {
     if !intake::is_open(&mut rt.reader()) {
         return Err(Stop::Unread);
