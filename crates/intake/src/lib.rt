@@ -1,8 +1,8 @@
-// What comes to a program. Of standard input: octets up to a buffer's end or the input's, and whether a read failed, which is no end of
-// the input. Of the arguments: how many there are.
+// What comes to a program. Of standard input: octets up to a buffer's end or the input's, and
+// whether a read failed, which is no end of the input. Of the arguments: how many there are.
 #![tactic(auto)]
 
-ghost use Rattle.std.specs.Prelude.{◌≡◌, ◌<◌, length, take, false};
+ghost use Rattle.std.specs.Prelude.{◌<◌, IfErr, IfOk, length, take};
 ghost use Rattle.std.specs.Io.KnownBytes.{Consumes, IsAtEnd, Keeps};
 ghost use Rattle.intake.specs.Counts.{IsPrefixLen};
 
@@ -10,60 +10,46 @@ use std::env::FillError;
 use std::io::Read;
 use std::rt::Env;
 
-// How many octets came, at the start of the buffer, and whether a read failed after them.
-#[derive(Clone, Copy)]
-pub struct Got {
+// A read failed, after so many octets had come to the start of the buffer.
+#[derive(Clone, Copy, Debug, PartialEq, Eq)]
+pub struct Cut {
     pub octets: usize,
-    pub failed: bool,
 }
 
-// Reads until the buffer is full, the input ends or a read fails.
-pub fn fill<R: Read>(input: &mut R, buffer: &mut [u8]) -> Got
-    ensures count { IsPrefixLen result.octets buffer.new }
-    ensures taken { Consumes (R.remaining input.old) (R.remaining input.new) (take result.octets buffer.new) }
-    ensures end { result.failed ≡ false → result.octets < length buffer.new → IsAtEnd (R.remaining input.new) }
+// Reads until the buffer is full, the input ends or a read fails. How many octets came, at the
+// start of the buffer.
+pub fn fill<R: Read>(input: &mut R, buffer: &mut [u8]) -> Result<usize, Cut>
+    ensures count { IfOk result (λ n. IsPrefixLen n buffer.new) }
+    ensures taken { IfOk result (λ n.
+        Consumes (R.remaining input.old) (R.remaining input.new) (take n buffer.new)) }
+    ensures end { IfOk result (λ n. n < length buffer.new → IsAtEnd (R.remaining input.new)) }
+    ensures cut_count { IfErr result (λ cut. IsPrefixLen cut.octets buffer.new) }
+    ensures cut_taken { IfErr result (λ cut.
+        Consumes (R.remaining input.old) (R.remaining input.new) (take cut.octets buffer.new)) }
 {
     let mut n = 0;
     while n < buffer.len() {
         match input.read(&mut buffer[n..]) {
-            Ok(more) => {
-                if more == 0 {
-                    return Got {
-                        octets: n,
-                        failed: false,
-                    };
-                }
-                n += more;
-            }
-            Err(_) => {
-                return Got {
-                    octets: n,
-                    failed: true,
-                };
-            }
+            Ok(0) => return Ok(n),
+            Ok(more) => n += more,
+            Err(_) => return Err(Cut { octets: n }),
         }
     }
-    Got {
-        octets: n,
-        failed: false,
-    }
+    Ok(n)
 }
 
-// Whether an input can be read at all. A read of no octets takes nothing, and fails where it cannot, as for a folder.
+// Whether an input can be read at all. A read of no octets takes nothing, and fails where it
+// cannot, as for a folder.
 pub fn is_open<R: Read>(input: &mut R) -> bool
     ensures { Keeps (R.remaining input.old) (R.remaining input.new) }
 {
-    let mut none = [0u8; 0];
-    input.read(&mut none).is_ok()
+    input.read(&mut []).is_ok()
 }
 
-// How many arguments the program was started with, its own name among them. One that has no room here is there all the same.
+// How many arguments the program was started with, its own name among them. One that has no room
+// here is there all the same.
 pub fn arg_count(rt: &impl Env) -> usize {
-    let mut none = [0u8; 0];
-    for i in 0..usize::MAX {
-        if let Err(FillError::NotPresent) = rt.arg(i, &mut none) {
-            return i;
-        }
-    }
-    usize::MAX
+    (0..usize::MAX)
+        .find(|i| matches!(rt.arg(*i, &mut []), Err(FillError::NotPresent)))
+        .unwrap_or(usize::MAX)
 }

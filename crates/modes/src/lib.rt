@@ -10,7 +10,7 @@ use table::Places;
 
 // What is in force: an audio value of (000) and a data value of (011).
 #[repr(C)]
-#[derive(Clone, Copy)]
+#[derive(Clone, Copy, PartialEq, Eq)]
 pub struct Mode {
     pub audio: u8,
     pub lsd: u8,

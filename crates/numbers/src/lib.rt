@@ -10,7 +10,7 @@ pub struct FrameNumber(pub u8);
 
 // Laid out as in C, as all that a state holds: states cross to a card driver as they stand.
 #[repr(C)]
-#[derive(Clone, Copy)]
+#[derive(Clone, Copy, PartialEq, Eq)]
 pub struct BlockNumber(pub u8);
 
 #[derive(Clone, Copy)]

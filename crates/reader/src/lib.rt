@@ -14,7 +14,7 @@ use slots::Slot;
 // the run of wrong patterns; what is due; whether there is a block before, and its remainder (DECISIONS F19). Laid out as in C for a card
 // driver.
 #[repr(C)]
-#[derive(Clone, Copy)]
+#[derive(Clone, Copy, PartialEq, Eq)]
 pub struct Reader {
     pub mode: Mode,
     pub kept: Mode,

@@ -11,7 +11,7 @@ use numbers::BlockNumber;
 // What a sender keeps between blocks, laid out as in C for a card driver. The chosen audio stands apart from the audio in force; `due` is
 // 0, or an item is due (DECISIONS F46).
 #[repr(C)]
-#[derive(Clone, Copy)]
+#[derive(Clone, Copy, PartialEq, Eq)]
 pub struct Sender {
     pub chosen: u8,
     pub mode: Mode,

@@ -18,7 +18,7 @@ pub enum Due {
 
 // What is due, as a saved state holds it: kind 0 is a plain word, 1 an item, 2 N, and every other number a message with `words` left.
 #[repr(C)]
-#[derive(Clone, Copy)]
+#[derive(Clone, Copy, PartialEq, Eq)]
 pub struct Slot {
     pub kind: u8,
     pub words: u8,
