@@ -1,17 +1,14 @@
 -- Document 01, 'How to write each place': if an answer is an enum, a definition gives the paper's number and values for each case.
-use Rattle.std.specs.Prelude.{List, ℕ, replicate}
+use Rattle.std.specs.Prelude.{List, ℕ, replicate, Ok, Err}
 use Rattle.words.specs.Readings.{reading_kind, reading_code}
 use Rattle.words.specs.declared.Reading.TheVariants.{NotRead}
 use Rattle.control.specs.Refusals as sending
-use Rattle.control.specs.declared.Answer as sent
 use Rattle.track.specs.Parts.{verdict_number, standing_number}
 use Rattle.track.specs.declared.Standing.TheVariants.{Waiting}
 use Rattle.track.specs.declared.Verdict.TheVariants.{None}
 use Rattle.track.specs.declared.Report.{Report}
 use Rattle.reading.specs.Refusals as reading
-use Rattle.reading.specs.declared.Answer as read
-use Rattle.search.specs.Finding.{found_number, found_place}
-use Rattle.search.specs.declared.Found.{Found}
+use Rattle.search.specs.Finding.{Found, found_number, found_place}
 use Rattle.recording.specs.Refusals as walking
 use Rattle.recording.specs.declared.Answer as walked
 use Rattle.answers.specs.declared.SendAnswer.{SendAnswer}
@@ -21,7 +18,7 @@ use Rattle.answers.specs.declared.SearchAnswer.{SearchAnswer}
 use Rattle.answers.specs.declared.StepAnswer.{StepAnswer}
 
 -- a sending call's answer
-abbrev pub send_answer_of : sent.Answer → SendAnswer
+abbrev pub send_answer_of : sending.Answer → SendAnswer
 send_answer_of a = record { kind = sending.kind_of a; number = sending.number_in a }
 
 -- a block's
@@ -45,12 +42,12 @@ nothing_read =
     }
 
 -- a reading call's
-abbrev pub read_answer_of : read.Answer → ReadAnswer
+abbrev pub read_answer_of : reading.Answer → ReadAnswer
 read_answer_of a = record { kind = reading.kind_of a; number = reading.number_in a; block = block a }
   where
-    block : read.Answer → BlockAnswer
-    block (read.TheVariants.Block report) = block_answer_of report
-    block (read.TheVariants.Refused r) = nothing_read
+    block : reading.Answer → BlockAnswer
+    block (Ok report) = block_answer_of report
+    block (Err r) = nothing_read
 
 -- reserved octets: they say nothing, and are 0
 abbrev pub reserved_octets : ℕ → List ℕ

@@ -1,27 +1,32 @@
-// What calls answer, in the numbers that cross to C: document 01's number and values for each case, by the definitions of specs/.
+// What calls answer, in the numbers that cross to C: document 01's number and values for each case,
+// by the definitions of specs/.
 #![tactic(auto)]
 
 ghost use Rattle.std.specs.Prelude.{◌≡◌};
-ghost use Rattle.words.specs.Readings.{reading_kind, reading_code};
+ghost use Rattle.words.specs.Readings.{reading_kind};
 ghost use Rattle.track.specs.Parts.{standing_number, verdict_number};
-ghost use Rattle.answers.specs.Answers.{send_answer_of, block_answer_of, nothing_read, read_answer_of, search_answer_of, step_answer_of};
+ghost use Rattle.answers.specs.Answers.{send_answer_of, block_answer_of, nothing_read};
+ghost use Rattle.answers.specs.Answers.{read_answer_of, search_answer_of, step_answer_of};
 
-use search::Found;
+use control::Went;
+use recording::Answer;
+use refusals::Refusal;
 use track::{Report, Standing, Verdict};
 use words::Reading;
 
 // Kind 0 is sent, 1 held and 2 refused; the number is that of the refusal, or 0.
 #[repr(C)]
-#[derive(Clone, Copy)]
+#[derive(Clone, Copy, Debug, PartialEq, Eq)]
 pub struct SendAnswer {
     pub kind: u8,
     pub number: u8,
 }
 
-// A block's answer. Standing 0 is waiting, 1 read and 2 lost; verdict 0 is none, 1 good and 2 bad; reading 0 is a mended code, 1 an item,
-// 2 a message word, 3 a forbidden item, 4 not followed, 5 unreadable and 6 not read; the code is 0 for the last two.
+// A block's answer. Standing 0 is waiting, 1 read and 2 lost; verdict 0 is none, 1 good and 2 bad;
+// reading 0 is a mended code, 1 an item, 2 a message word, 3 a forbidden item, 4 not followed, 5
+// unreadable and 6 not read; the code is 0 for the last two.
 #[repr(C)]
-#[derive(Clone, Copy)]
+#[derive(Clone, Copy, Debug, PartialEq, Eq)]
 pub struct BlockAnswer {
     pub standing: u8,
     pub verdict: u8,
@@ -31,25 +36,27 @@ pub struct BlockAnswer {
 
 // Kind 0 is a block and 1 refused; the number is that of the refusal, or 0.
 #[repr(C)]
-#[derive(Clone, Copy)]
+#[derive(Clone, Copy, Debug, PartialEq, Eq)]
 pub struct ReadAnswer {
     pub kind: u8,
     pub number: u8,
     pub block: BlockAnswer,
 }
 
-// The place found and number 0, or place 0 and the refusal's number. Reserved octets are 0, so that no octet of an answer is left unset.
+// The place found and number 0, or place 0 and the refusal's number. Reserved octets are 0, so that
+// no octet of an answer is left unset.
 #[repr(C)]
-#[derive(Clone, Copy)]
+#[derive(Clone, Copy, Debug, PartialEq, Eq)]
 pub struct SearchAnswer {
     pub place: usize,
     pub number: u8,
     pub reserved: [u8; 7],
 }
 
-// Kind 0 is a block, 1 a place, 2 the end and 3 refused; the value is the place found or the octets left, and 0 for the other two.
+// Kind 0 is a block, 1 a place, 2 the end and 3 refused; the value is the place found or the octets
+// left, and 0 for the other two.
 #[repr(C)]
-#[derive(Clone, Copy)]
+#[derive(Clone, Copy, Debug, PartialEq, Eq)]
 pub struct StepAnswer {
     pub value: usize,
     pub kind: u8,
@@ -59,19 +66,16 @@ pub struct StepAnswer {
 }
 
 // A sending call's answer.
-pub fn send_answer(answer: control::Answer) -> SendAnswer
-    ensures { result ≡ send_answer_of answer }
-{
-    match answer {
-        control::Answer::Sent => SendAnswer { kind: 0, number: 0 },
-        control::Answer::Held => SendAnswer { kind: 1, number: 0 },
-        control::Answer::Refused(why) => {
-            let number = refusals::number_of(why);
-            SendAnswer {
-                kind: 2,
-                number: number,
-            }
-        }
+impl From<Result<Went, Refusal>> for SendAnswer {
+    ghost from_gives = { λ answer told. told ≡ send_answer_of answer };
+
+    fn from(answer: Result<Went, Refusal>) -> SendAnswer {
+        let (kind, number) = match answer {
+            Ok(Went::Sent) => (0, 0),
+            Ok(Went::Held) => (1, 0),
+            Err(why) => (2, u8::from(why)),
+        };
+        SendAnswer { kind, number }
     }
 }
 
@@ -99,145 +103,117 @@ fn reading_kind(reading: Reading) -> u8
     ensures { result ≡ reading_kind reading }
 {
     match reading {
-        Reading::Mended(_code) => 0,
-        Reading::Item(_code) => 1,
-        Reading::MessageWord(_code) => 2,
-        Reading::ForbiddenItem(_code) => 3,
-        Reading::NotFollowed(_code) => 4,
+        Reading::Mended(_) => 0,
+        Reading::Item(_) => 1,
+        Reading::MessageWord(_) => 2,
+        Reading::ForbiddenItem(_) => 3,
+        Reading::NotFollowed(_) => 4,
         Reading::Unreadable => 5,
         Reading::NotRead => 6,
     }
 }
 
-fn reading_code(reading: Reading) -> u8
-    ensures { result ≡ reading_code reading }
-{
-    match reading {
-        Reading::Mended(code) => code,
-        Reading::Item(code) => code,
-        Reading::MessageWord(code) => code,
-        Reading::ForbiddenItem(code) => code,
-        Reading::NotFollowed(code) => code,
-        Reading::Unreadable => 0,
-        Reading::NotRead => 0,
+// A block's answer.
+impl From<Report> for BlockAnswer {
+    ghost from_gives = { λ report told. told ≡ block_answer_of report };
+
+    fn from(report: Report) -> BlockAnswer {
+        BlockAnswer {
+            standing: standing_number(report.standing),
+            verdict: verdict_number(report.verdict),
+            reading: reading_kind(report.reading),
+            code: report.reading.code().unwrap_or(0),
+        }
     }
 }
 
-fn block_answer(report: Report) -> BlockAnswer
-    ensures { result ≡ block_answer_of report }
-{
-    let standing = report.standing;
-    let verdict = report.verdict;
-    let reading = report.reading;
-    let stands = standing_number(standing);
-    let judged = verdict_number(verdict);
-    let kind = reading_kind(reading);
-    let code = reading_code(reading);
-    BlockAnswer {
-        standing: stands,
-        verdict: judged,
-        reading: kind,
-        code: code,
-    }
-}
-
-// What an answer that is no block says of one: waiting, no verdict, not read. So a driver that forgets to look at the kind follows no code.
-fn no_block() -> BlockAnswer
-    ensures { result ≡ nothing_read }
-{
-    BlockAnswer {
-        standing: 0,
-        verdict: 0,
-        reading: 6,
-        code: 0,
+impl BlockAnswer {
+    // What an answer that is no block says of one: waiting, no verdict, not read. So a driver that
+    // forgets to look at the kind follows no code.
+    fn nothing() -> BlockAnswer
+        ensures { result ≡ nothing_read }
+    {
+        BlockAnswer {
+            standing: 0,
+            verdict: 0,
+            reading: 6,
+            code: 0,
+        }
     }
 }
 
 // A reading call's answer.
-pub fn read_answer(answer: reading::Answer) -> ReadAnswer
-    ensures { result ≡ read_answer_of answer }
-{
-    let nothing = no_block();
-    match answer {
-        reading::Answer::Block(report) => {
-            let block = block_answer(report);
-            ReadAnswer {
+impl From<Result<Report, Refusal>> for ReadAnswer {
+    ghost from_gives = { λ answer told. told ≡ read_answer_of answer };
+
+    fn from(answer: Result<Report, Refusal>) -> ReadAnswer {
+        match answer {
+            Ok(report) => ReadAnswer {
                 kind: 0,
                 number: 0,
-                block: block,
-            }
-        }
-        reading::Answer::Refused(why) => {
-            let number = refusals::number_of(why);
-            ReadAnswer {
+                block: BlockAnswer::from(report),
+            },
+            Err(why) => ReadAnswer {
                 kind: 1,
-                number: number,
-                block: nothing,
-            }
+                number: u8::from(why),
+                block: BlockAnswer::nothing(),
+            },
         }
     }
 }
 
 // A search's answer.
-pub fn search_answer(found: Found) -> SearchAnswer
-    ensures { result ≡ search_answer_of found }
-{
-    match found {
-        Found::Place(place) => SearchAnswer {
-            place: place,
-            number: 0,
-            reserved: [0; 7],
-        },
-        Found::Refused(why) => {
-            let number = refusals::number_of(why);
-            SearchAnswer {
-                place: 0,
-                number: number,
+impl From<Result<usize, Refusal>> for SearchAnswer {
+    ghost from_gives = { λ found told. told ≡ search_answer_of found };
+
+    fn from(found: Result<usize, Refusal>) -> SearchAnswer {
+        match found {
+            Ok(place) => SearchAnswer {
+                place,
+                number: 0,
                 reserved: [0; 7],
-            }
+            },
+            Err(why) => SearchAnswer {
+                place: 0,
+                number: u8::from(why),
+                reserved: [0; 7],
+            },
         }
     }
 }
 
 // The answer of a walk's step.
-pub fn step_answer(answer: recording::Answer) -> StepAnswer
-    ensures { result ≡ step_answer_of answer }
-{
-    let nothing = no_block();
-    match answer {
-        recording::Answer::Block(report) => {
-            let block = block_answer(report);
-            StepAnswer {
-                value: 0,
-                kind: 0,
-                number: 0,
-                block: block,
-                reserved: [0; 2],
-            }
-        }
-        recording::Answer::Place(place) => StepAnswer {
-            value: place,
-            kind: 1,
+impl From<Answer> for StepAnswer {
+    ghost from_gives = { λ answer told. told ≡ step_answer_of answer };
+
+    fn from(answer: Answer) -> StepAnswer {
+        let blank = StepAnswer {
+            value: 0,
+            kind: 0,
             number: 0,
-            block: nothing,
+            block: BlockAnswer::nothing(),
             reserved: [0; 2],
-        },
-        recording::Answer::End(left) => StepAnswer {
-            value: left,
-            kind: 2,
-            number: 0,
-            block: nothing,
-            reserved: [0; 2],
-        },
-        recording::Answer::Refused(why) => {
-            let number = refusals::number_of(why);
-            StepAnswer {
-                value: 0,
+        };
+        match answer {
+            Answer::Block(report) => StepAnswer {
+                block: BlockAnswer::from(report),
+                ..blank
+            },
+            Answer::Place(place) => StepAnswer {
+                value: place,
+                kind: 1,
+                ..blank
+            },
+            Answer::End(left) => StepAnswer {
+                value: left,
+                kind: 2,
+                ..blank
+            },
+            Answer::Refused(why) => StepAnswer {
                 kind: 3,
-                number: number,
-                block: nothing,
-                reserved: [0; 2],
-            }
+                number: u8::from(why),
+                ..blank
+            },
         }
     }
 }

@@ -1,5 +1,5 @@
 -- Document 01, 'Codes and bit places' and 'Slots': what a driver can ask.
-use Rattle.std.specs.Prelude.{cond, ℕ, ◌/◌, eqb}
+use Rattle.std.specs.Prelude.{Bool, cond, ℕ, ◌/◌, eqb}
 use Rattle.bits.specs.Bits.{digit}
 use Rattle.table.specs.Table.{audio_places, lsd_places}
 use Rattle.modes.specs.Owners.{counting}
@@ -28,8 +28,11 @@ abbrev pub library : Library
 library = record { version = 200; sender = 6; reader = 12; walk = 24; reserved = 0 }
 
 -- a driver fits that was compiled for this version, and no other
+abbrev pub is_this_version : ℕ → Bool
+is_this_version version = eqb version library.version
+
 abbrev pub fits_version : ℕ → ℕ
-fits_version version = cond (eqb version library.version) 1 0
+fits_version version = cond (is_this_version version) 1 0
 
 -- ---- states, modes and codes
 -- a sender: what is in force, what is chosen, and the kind of word that is due

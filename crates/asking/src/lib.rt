@@ -1,24 +1,23 @@
-// What a driver can ask: which library this is, what a state has in force and due, how much of its buffers counts, and what a code is
-// (document 01, 'Codes and bit places' and 'Slots'). Every state, mode and code is answered, in range or not.
+// What a driver can ask: which library this is, what a state has in force and due, how much of its
+// buffers counts, and what a code is (document 01, 'Codes and bit places' and 'Slots'). Every state,
+// mode and code is answered, in range or not.
 #![tactic(auto)]
 
 ghost use Rattle.std.specs.Prelude.{◌≡◌};
-ghost use Rattle.bits.specs.Bits.{digit};
-ghost use Rattle.codes.specs.declared.Command.TheVariants.{NoEffect};
-ghost use Rattle.sender.specs.State.{word_due};
-ghost use Rattle.asking.specs.Asked.{library, fits_version, sender_told, reader_told, counts_of, code_kind, code_places, code_told};
+ghost use Rattle.asking.specs.Asked.{library, is_this_version, sender_told, reader_told};
+ghost use Rattle.asking.specs.Asked.{counts_of, code_kind, code_places, code_told};
 
 use codes::{Command, Opening};
 use modes::{Mode, Owner};
 use numbers::BlockNumber;
 use reader::Reader;
 use sender::Sender;
-use slots::Due;
+use slots::{Due, Slot};
 use table::Places;
 
 // Which library this is: its version as a number, and how many octets each state has.
 #[repr(C)]
-#[derive(Clone, Copy)]
+#[derive(Clone, Copy, Debug, PartialEq, Eq)]
 pub struct Library {
     pub version: u32,
     pub sender: u16,
@@ -29,16 +28,17 @@ pub struct Library {
 
 // A sender: what is in force, the chosen audio, and which word is due, by the kinds of a slot.
 #[repr(C)]
-#[derive(Clone, Copy)]
+#[derive(Clone, Copy, Debug, PartialEq, Eq)]
 pub struct SenderTold {
     pub mode: Mode,
     pub chosen: u8,
     pub due: u8,
 }
 
-// A reader: what is in force, the next block's number, 0 where it is unknown, which word is due, and the words of a message that are left.
+// A reader: what is in force, the next block's number, 0 where it is unknown, which word is due, and
+// the words of a message that are left.
 #[repr(C)]
-#[derive(Clone, Copy)]
+#[derive(Clone, Copy, Debug, PartialEq, Eq)]
 pub struct ReaderTold {
     pub mode: Mode,
     pub block: BlockNumber,
@@ -48,16 +48,17 @@ pub struct ReaderTold {
 
 // How many octets of a voice buffer count, and how many bits of a data buffer.
 #[repr(C)]
-#[derive(Clone, Copy)]
+#[derive(Clone, Copy, Debug, PartialEq, Eq)]
 pub struct Counts {
     pub voice: u16,
     pub lsd: u16,
 }
 
-// A code: its kind, whether a sender carries it as a plain word, and the places that it gives to a stream: octet bits, and SC octets. Kind 0
-// is none of the others, 1 neutral, 2 audio, 3 data, 4 an escape, and 5 opens a message.
+// A code: its kind, whether a sender carries it as a plain word, and the places that it gives to a
+// stream: octet bits, and SC octets. Kind 0 is none of the others, 1 neutral, 2 audio, 3 data, 4 an
+// escape, and 5 opens a message.
 #[repr(C)]
-#[derive(Clone, Copy)]
+#[derive(Clone, Copy, Debug, PartialEq, Eq)]
 pub struct CodeTold {
     pub kind: u8,
     pub carried: u8,
@@ -83,82 +84,64 @@ pub fn about() -> Library
 }
 
 // Whether a driver that was compiled for a version can call this library.
-pub fn fits(version: u32) -> u8
-    ensures { result ≡ fits_version version }
+pub fn fits(version: u32) -> bool
+    ensures { result ≡ is_this_version version }
 {
-    if version == VERSION {
-        return 1;
-    }
-    0
+    version == VERSION
 }
 
-// The word that a sender has due.
-fn word_due(state: Sender) -> Due
-    ensures { result ≡ word_due state }
-{
-    if state.due == 0 {
-        return Due::Plain;
-    }
-    Due::AnItem
-}
+// What a sender has in force, chosen and due.
+impl From<Sender> for SenderTold {
+    ghost from_gives = { λ state told. told ≡ sender_told state };
 
-pub fn sender_told(state: Sender) -> SenderTold
-    ensures { result ≡ sender_told state }
-{
-    let mode = state.mode;
-    let slot = slots::slot_of(word_due(state));
-    SenderTold {
-        mode: mode,
-        chosen: state.chosen,
-        due: slot.kind,
+    fn from(state: Sender) -> SenderTold {
+        SenderTold {
+            mode: state.mode,
+            chosen: state.chosen,
+            due: Slot::from(state.word_due()).kind,
+        }
     }
 }
 
-pub fn reader_told(state: Reader) -> ReaderTold
-    ensures { result ≡ reader_told state }
-{
-    let mode = state.mode;
-    let block = state.block;
-    let kept = state.slot;
-    let slot = slots::slot_of(slots::due_now(slots::due_of(kept)));
-    ReaderTold {
-        mode: mode,
-        block: block,
-        due: slot.kind,
-        words: slot.words,
+// What a reader has in force and due, and its place.
+impl From<Reader> for ReaderTold {
+    ghost from_gives = { λ state told. told ≡ reader_told state };
+
+    fn from(state: Reader) -> ReaderTold {
+        let slot = Slot::from(Due::from(state.slot).now());
+        ReaderTold {
+            mode: state.mode,
+            block: state.block,
+            due: slot.kind,
+            words: slot.words,
+        }
     }
 }
 
 // How much of the buffers counts under a mode: two frames a block, eight bits an octet.
-pub fn count_of(mode: Mode) -> Counts
-    ensures { result ≡ counts_of mode }
-{
-    let voice = modes::bits_per_frame(mode, Owner::Voice);
-    let lsd = modes::bits_per_frame(mode, Owner::Lsd);
-    Counts {
-        voice: 2 * voice / 8,
-        lsd: 2 * lsd,
-    }
-}
+impl From<Mode> for Counts {
+    ghost from_gives = { λ mode counts. counts ≡ counts_of mode };
 
-fn opening_kind(opening: Opening) -> u8
-    ensures { result ≡ code_kind NoEffect opening }
-{
-    match opening {
-        Opening::Nothing => 0,
-        Opening::Item => 4,
-        Opening::Message => 5,
+    fn from(mode: Mode) -> Counts {
+        let voice = mode.bits_per_frame(Owner::Voice);
+        let lsd = mode.bits_per_frame(Owner::Lsd);
+        Counts {
+            voice: 2 * voice / 8,
+            lsd: 2 * lsd,
+        }
     }
 }
 
 fn kind_of(command: Command, opening: Opening) -> u8
     ensures { result ≡ code_kind command opening }
 {
-    match command {
-        Command::Neutral => 1,
-        Command::SetAudio(_) => 2,
-        Command::SetLsd(_) => 3,
-        Command::NoEffect => opening_kind(opening),
+    match (command, opening) {
+        (Command::Neutral, _) => 1,
+        (Command::SetAudio(_), _) => 2,
+        (Command::SetLsd(_), _) => 3,
+        (Command::NoEffect, Opening::Nothing) => 0,
+        (Command::NoEffect, Opening::Item) => 4,
+        (Command::NoEffect, Opening::Message) => 5,
     }
 }
 
@@ -167,29 +150,21 @@ fn places_of(command: Command) -> Places
     ensures { result ≡ code_places command }
 {
     match command {
-        Command::Neutral => table::audio_places(0),
         Command::SetAudio(v) => table::audio_places(v),
         Command::SetLsd(v) => table::lsd_places(v),
-        Command::NoEffect => table::audio_places(0),
+        Command::Neutral | Command::NoEffect => table::audio_places(0),
     }
 }
 
-fn one_if(holds: bool) -> u8
-    ensures { result ≡ digit holds }
-{
-    if holds { 1 } else { 0 }
-}
-
+// What a code is, and the places that it gives to a stream.
 pub fn code_told(code: u8) -> CodeTold
     ensures { result ≡ code_told code }
 {
     let command = codes::command_of(code);
-    let kind = kind_of(command, codes::opening_of(code));
-    let carried = one_if(codes::sender_carries(code));
     let places = places_of(command);
     CodeTold {
-        kind: kind,
-        carried: carried,
+        kind: kind_of(command, codes::opening_of(code)),
+        carried: u8::from(codes::sender_carries(code)),
         first_bit: places.from,
         last_bit: places.to,
         first_sc: places.first.0,

@@ -1,6 +1,6 @@
 -- Reading by the table of flips is reading by the definition.
 use mathlib.Core.Path.{◌≡◌, refl, sym, ap, ap₂, ◌∙◌, subst}
-use mathlib.Core.Bool.{Bool, true, false, xor, not, false≢true, ◌&&◌, ◌||◌}
+use mathlib.Core.Bool.{Bool, true, false, cond, xor, not, false≢true, ◌&&◌, ◌||◌}
 use mathlib.Core.List.{List, [], ◌∷◌, ◌++◌, map, nil≢cons, head-eq_of_cons-eq}
 use mathlib.Core.Logic.{◌≢◌, ⊎_elim}
 use Prim.Native.Nat.{ℕ, zero, suc, ◌+◌, ◌-◌, ◌/◌, ◌%◌, ◌^◌, ◌≤◌, ◌<◌, min}
@@ -11,15 +11,15 @@ use lib.Dec.{leb, eqb}
 use lib.ListN.{length, take, drop, length-take, length-drop}
 use lib.Seq.{take_at, drop_at}
 use lib.Bits.{bit_xor, xor_lt, xor_zero_r}
-use borrow.Author.Tests.{leb-true, eqb-true, eqb-false, not-true, le-leb, lt-leb}
+use borrow.Author.Tests.{eq-eqb, ne_eqb, leb-true, eqb-true, eqb-false, not-true, le-leb, lt-leb}
+use Rattle.std.specs.Prelude.{Some, None, is_some}
 use Rattle.bits.specs.Bits.{odd, low_bits, octet_bits, digit, number, zeros, xors}
 use Rattle.bits.specs.Remainder.{scaled, fed, continued, remainder}
 use Rattle.bits.proofs.BitLaws.{xors_comm, xors_medial, xors_self, xors-zeros, xors_cancel, xors-append, xors_swap, take-xors, drop-xors, length-xors, length-low_bits, low_bits-xor, low_bits-append, low_bits-back, low_bits-mod, number_fits, number_bound, number_inj}
 use Rattle.bits.proofs.RemainderLaws.{length-remainder, remainder-xor}
 use Rattle.bas.specs.Words.{bas_generator, check_of, word_bits, word_of}
 use Rattle.bas.specs.Reading.{weight, distance, near, kept_if, codes_near, the_one, reading_of}
-use Rattle.bas.specs.Flips.{lights, syndrome, filled, flip_table, flips_at}
-use Rattle.bas.specs.declared.Word.TheVariants.{Code, Unreadable}
+use Rattle.bas.specs.Flips.{lights, syndrome, filled, flip_table, entry_at, flips_at}
 use Rattle.bas.proofs.WordLaws.{check-bits, length-word_bits, triangle, five_apart}
 use Rattle.bits.proofs.BoolLaws.{and_left, and_right, and_make, or_right, isnt_true, every_below, below}
 
@@ -30,20 +30,20 @@ all p (e ∷ es) = p e && all p es
 
 -- each pattern of at most two bits stands at its remainder, and none is 65535
 pattern_right : List Bool → Bool
-pattern_right e = eqb (flips_at (number (syndrome e))) (number e) && not (eqb (number e) 65535)
+pattern_right e = eqb (entry_at (number (syndrome e))) (number e) && not (eqb (number e) 65535)
 
 all_patterns : all pattern_right (lights 16 2) ≡ true
-unfolding pattern_right flips_at flip_table filled syndrome lights number remainder continued fed xors scaled xor
+unfolding pattern_right entry_at flip_table filled syndrome lights number remainder continued fed xors scaled xor
 all_patterns = refl
 
 -- each entry but 65535 is a pattern of at most two bits with this remainder
 entry_right : ℕ → Bool
 entry_right s =
-    eqb (flips_at s) 65535
-    || leb (weight (low_bits 16 (flips_at s))) 2 && eqb (number (syndrome (low_bits 16 (flips_at s)))) s
+    eqb (entry_at s) 65535
+    || leb (weight (low_bits 16 (entry_at s))) 2 && eqb (number (syndrome (low_bits 16 (entry_at s)))) s
 
 all_entries : every_below 256 entry_right ≡ true
-unfolding entry_right flips_at flip_table filled syndrome lights low_bits odd weight number remainder continued fed xors scaled xor
+unfolding entry_right entry_at flip_table filled syndrome lights low_bits odd weight number remainder continued fed xors scaled xor
 all_entries = refl
 
 -- what passes at each of the light lists passes at each list that is light
@@ -117,11 +117,11 @@ near_once w c d hc hd tc td = elim (ℕ_discrete c d) [
 ]
 
 -- so the reading is the code that is near
-pub reads : (w c : ℕ) → c < 256 → near w c ≡ true → reading_of w ≡ Code c
+pub reads : (w c : ℕ) → c < 256 → near w c ≡ true → reading_of w ≡ Some c
 unfolding reading_of the_one
 reads w c h t = ap the_one (one_near w 256 c h t (λ d i u. near_once w d c i h u t))
 
-pub reads_none : (w : ℕ) → ((c : ℕ) → c < 256 → near w c ≡ true → ⊥) → reading_of w ≡ Unreadable
+pub reads_none : (w : ℕ) → ((c : ℕ) → c < 256 → near w c ≡ true → ⊥) → reading_of w ≡ None
 unfolding reading_of the_one
 reads_none w h = ap the_one (none_near w 256 h)
 
@@ -179,20 +179,20 @@ index_is_syndrome w =
 
 -- ---- the reading by the table
 -- no entry: no code is near
-pub unmended : (w : ℕ) → flips_at (number (syndrome (low_bits 16 w))) ≡ 65535 → reading_of w ≡ Unreadable
+unmended_at : (w : ℕ) → entry_at (number (syndrome (low_bits 16 w))) ≡ 65535 → reading_of w ≡ None
 unfolding near pattern_right distance
-unmended w e = reads_none w (λ c h t.
+unmended_at w e = reads_none w (λ c h t.
     let x = low_bits 16 w in
     let off = xors x (word_bits c) in
     let hx : length x ≡ 16 = length-low_bits 16 w in
     let hoff : length off ≡ 16 = length-xors x (word_bits c) (hx ∙ sym (length-word_bits c)) ∙ hx in
-    let stands = eqb (flips_at (number (syndrome off))) (number off) in
+    let stands = eqb (entry_at (number (syndrome off))) (number off) in
     let full = eqb (number off) 65535 in
     let test : (stands && not full) ≡ true = light 16 2 pattern_right all_patterns off hoff (leb-true (weight off) 2 t) in
-    let found : flips_at (number (syndrome off)) ≡ number off =
-    eqb-true (flips_at (number (syndrome off))) (number off) (and_left stands (not full) test) in
+    let found : entry_at (number (syndrome off)) ≡ number off =
+    eqb-true (entry_at (number (syndrome off))) (number off) (and_left stands (not full) test) in
     eqb-false (number off) 65535 (not-true full (and_right stands (not full) test))
-    (sym found ∙ ap (λ (l : List Bool). flips_at (number l)) (syndrome-off x c hx) ∙ e))
+    (sym found ∙ ap (λ (l : List Bool). entry_at (number l)) (syndrome-off x c hx) ∙ e))
 
 -- the word with the bits of f flipped is the word of this code
 flipped : ℕ → ℕ → ℕ
@@ -220,13 +220,13 @@ flipped_word w f e =
     ∙ ap₂ xors (sym (halves w)) (sym (halves f))
 
 -- an entry: the code of the word with those bits flipped is near
-pub mended : (w : ℕ) → w < 65536 → flips_at (number (syndrome (low_bits 16 w))) ≢ 65535
-    → reading_of w ≡ Code (bit_xor (w / 256) (flips_at (number (syndrome (low_bits 16 w))) / 256 % 256))
+mended_at : (w : ℕ) → w < 65536 → entry_at (number (syndrome (low_bits 16 w))) ≢ 65535
+    → reading_of w ≡ Some (bit_xor (w / 256) (entry_at (number (syndrome (low_bits 16 w))) / 256 % 256))
 unfolding near entry_right distance flipped
-mended w h ne =
+mended_at w h ne =
     let x = low_bits 16 w in
     let s = number (syndrome x) in
-    let f = flips_at s in
+    let f = entry_at s in
     let y = low_bits 16 f in
     let hx : length x ≡ 16 = length-low_bits 16 w in
     let hy : length y ≡ 16 = length-low_bits 16 f in
@@ -245,25 +245,47 @@ mended w h ne =
     reads w (flipped w f) (xor_lt 8 (w / 256) (f / 256 % 256) hw hf)
     (le-leb (weight (xors x (word_bits (flipped w f)))) 2 (subst (λ (l : List Bool). weight l ≤ 2) (sym off) light-y))
 
+some≢none : (c : ℕ) → Some c ≡ None → ⊥
+some≢none c e = let z : ◌≡◌ {A = ℕ} 0 1 = cc in omega arith
+
+some_inj : (c d : ℕ) → Some c ≡ Some d → c ≡ d
+some_inj c d e = cc
+
+-- no flips at the remainder: no code is near
+pub unmended : (w : ℕ) → flips_at (number (syndrome (low_bits 16 w))) ≡ None → reading_of w ≡ None
+unfolding flips_at
+unmended w e = go (ℕ_discrete (entry_at (number (syndrome (low_bits 16 w)))) 65535)
+  where
+    go : Dec (entry_at (number (syndrome (low_bits 16 w))) ≡ 65535) → reading_of w ≡ None
+    go (yes i) = unmended_at w i
+    go (no ne) = absurd (some≢none _ (sym (ap (λ (b : Bool). cond b None (Some (entry_at (number (syndrome (low_bits 16 w)))))) (ne_eqb _ _ ne)) ∙ e))
+
+-- flips at the remainder: the code of the word that they leave is near
+pub mended : (w f : ℕ) → w < 65536 → flips_at (number (syndrome (low_bits 16 w))) ≡ Some f
+    → reading_of w ≡ Some (bit_xor (w / 256) (f / 256 % 256))
+unfolding flips_at
+mended w f h e = go (ℕ_discrete (entry_at (number (syndrome (low_bits 16 w)))) 65535)
+  where
+    go : Dec (entry_at (number (syndrome (low_bits 16 w))) ≡ 65535) → reading_of w ≡ Some (bit_xor (w / 256) (f / 256 % 256))
+    go (yes i) = absurd (some≢none f (sym e ∙ ap (λ (b : Bool). cond b None (Some (entry_at (number (syndrome (low_bits 16 w)))))) (eq-eqb _ _ i)))
+    go (no ne) =
+        let is : Some (entry_at (number (syndrome (low_bits 16 w)))) ≡ Some f =
+        sym (ap (λ (b : Bool). cond b None (Some (entry_at (number (syndrome (low_bits 16 w)))))) (ne_eqb _ _ ne)) ∙ e in
+        mended_at w h ne ∙ ap (λ (n : ℕ). Some (bit_xor (w / 256) (n / 256 % 256))) (some_inj _ f is)
+
 -- no remainder: the word is its code's
-no_flip : flips_at 0 ≡ 0
-unfolding flips_at flip_table filled syndrome lights number remainder continued fed xors scaled xor
+no_flip : entry_at 0 ≡ 0
+unfolding entry_at flip_table filled syndrome lights number remainder continued fed xors scaled xor
 no_flip = refl
 
-pub unharmed : (w : ℕ) → w < 65536 → number (syndrome (low_bits 16 w)) ≡ 0 → reading_of w ≡ Code (w / 256)
+pub unharmed : (w : ℕ) → w < 65536 → number (syndrome (low_bits 16 w)) ≡ 0 → reading_of w ≡ Some (w / 256)
 unharmed w h e =
-    let none : flips_at (number (syndrome (low_bits 16 w))) ≡ 0 = ap flips_at e ∙ no_flip in
-    mended w h (λ all. omega arith)
-    ∙ ap (λ (f : ℕ). Code (bit_xor (w / 256) (f / 256 % 256))) none
-    ∙ ap Code (xor_zero_r (w / 256))
+    let none : entry_at (number (syndrome (low_bits 16 w))) ≡ 0 = ap entry_at e ∙ no_flip in
+    mended_at w h (λ all. omega arith)
+    ∙ ap (λ (f : ℕ). Some (bit_xor (w / 256) (f / 256 % 256))) none
+    ∙ ap Some (xor_zero_r (w / 256))
 
 -- ---- what the definition means for a word that was sent
-unreadable≢code : (c : ℕ) → Unreadable ≡ Code c → ⊥
-unreadable≢code c e = let z : ◌≡◌ {A = ℕ} 0 1 = cc in omega arith
-
-code_inj : (c d : ℕ) → Code c ≡ Code d → c ≡ d
-code_inj c d e = cc
-
 head_near : (w n c : ℕ) (cs : List ℕ) → codes_near w n ≡ c ∷ cs → near w c ≡ true
 unfolding codes_near kept_if
 head_near w zero c cs e = absurd (nil≢cons e)
@@ -274,14 +296,14 @@ head_near w (suc n) c cs e = pick (near w n) refl e (head_near w n c cs)
     pick false t h below = below h
 
 -- a code is near exactly where it is the reading
-pub reading_near : (w c : ℕ) → reading_of w ≡ Code c → near w c ≡ true
+pub reading_near : (w c : ℕ) → reading_of w ≡ Some c → near w c ≡ true
 unfolding reading_of the_one
 reading_near w c e = from_one (codes_near w 256) refl e
   where
-    from_one : (cs : List ℕ) → codes_near w 256 ≡ cs → the_one cs ≡ Code c → near w c ≡ true
-    from_one [] h e = absurd (unreadable≢code c e)
-    from_one (d ∷ []) h e = ap (near w) (sym (code_inj d c e)) ∙ head_near w 256 d [] h
-    from_one (d ∷ d' ∷ ds) h e = absurd (unreadable≢code c e)
+    from_one : (cs : List ℕ) → codes_near w 256 ≡ cs → the_one cs ≡ Some c → near w c ≡ true
+    from_one [] h e = absurd (some≢none c (sym e))
+    from_one (d ∷ []) h e = ap (near w) (sym (some_inj d c e)) ∙ head_near w 256 d [] h
+    from_one (d ∷ d' ∷ ds) h e = absurd (some≢none c (sym e))
 
 -- the sent word with the bits of e flipped on the way is near where e has at most two
 near-sent : (c e : ℕ) → near (bit_xor (word_of c) e) c ≡ leb (weight (low_bits 16 e)) 2
@@ -295,24 +317,24 @@ near-sent c e =
     (ap (λ (l : List Bool). xors l x) came ∙ xors_comm (xors x y) x ∙ xors_cancel x y (length-word_bits c ∙ sym (length-low_bits 16 e)))
 
 -- up to two wrong bits are mended
-pub two_wrong : (c e : ℕ) → c < 256 → weight (low_bits 16 e) ≤ 2 → reading_of (bit_xor (word_of c) e) ≡ Code c
+pub two_wrong : (c e : ℕ) → c < 256 → weight (low_bits 16 e) ≤ 2 → reading_of (bit_xor (word_of c) e) ≡ Some c
 two_wrong c e h few = reads (bit_xor (word_of c) e) c h (near-sent c e ∙ le-leb (weight (low_bits 16 e)) 2 few)
 
 -- a word that came unharmed reads as its code
-pub word_back : (c : ℕ) → c < 256 → reading_of (word_of c) ≡ Code c
+pub word_back : (c : ℕ) → c < 256 → reading_of (word_of c) ≡ Some c
 unfolding low_bits odd weight
 word_back c h = ap reading_of (sym (xor_zero_r (word_of c))) ∙ two_wrong c 0 h (omega arith)
 
 -- three wrong bits, or more, never read as the sent code
-pub three_wrong : (c e : ℕ) → 2 < weight (low_bits 16 e) → reading_of (bit_xor (word_of c) e) ≢ Code c
+pub three_wrong : (c e : ℕ) → 2 < weight (low_bits 16 e) → reading_of (bit_xor (word_of c) e) ≢ Some c
 three_wrong c e many r =
     false≢true (sym (lt-leb (weight (low_bits 16 e)) 2 many) ∙ sym (near-sent c e) ∙ reading_near (bit_xor (word_of c) e) c r)
 
 -- how many of the remainders below n can be mended: of the 256, 137, and so 119 not
 unfoldable pub mendable : ℕ → ℕ
 mendable zero = 0
-mendable (suc n) = digit (not (eqb (flips_at n) 65535)) + mendable n
+mendable (suc n) = digit (is_some (flips_at n)) + mendable n
 
 pub mendable-count : mendable 256 ≡ 137
-unfolding mendable flips_at flip_table filled syndrome lights number remainder continued fed xors scaled xor
+unfolding mendable flips_at entry_at flip_table filled syndrome lights number remainder continued fed xors scaled xor
 mendable-count = refl

@@ -1,6 +1,6 @@
 -- Document 01, 'BAS words': the table of 256 remainders, each naming the bits to flip or none. No contract of a public function
 -- speaks of it: it is how `read_word` works, and its rule is shown once over all entries in proofs/ReadingLaws.
-use Rattle.std.specs.Prelude.{Bool, true, false, List, [], ◌∷◌, ◌++◌, map, ℕ, zero, suc, take, drop, get_or, set, replicate}
+use Rattle.std.specs.Prelude.{Bool, true, false, cond, List, [], ◌∷◌, ◌++◌, map, ℕ, zero, suc, eqb, take, drop, get_or, set, replicate, Option, Some, None}
 use Rattle.bits.specs.Bits.{number, xors}
 use Rattle.bits.specs.Remainder.{remainder}
 use Rattle.bas.specs.Words.{bas_generator}
@@ -23,5 +23,12 @@ filled (e ∷ es) t = set (filled es t) (number (syndrome e)) (number e)
 unfoldable pub flip_table : List ℕ
 flip_table = filled (lights 16 2) (replicate 256 65535)
 
-unfoldable pub flips_at : ℕ → ℕ
-flips_at s = get_or flip_table s 0
+unfoldable pub entry_at : ℕ → ℕ
+entry_at s = get_or flip_table s 0
+
+-- an entry names the bits to flip, and 65535 none
+abbrev pub flips_named : ℕ → Option ℕ
+flips_named entry = cond (eqb entry 65535) None (Some entry)
+
+unfoldable pub flips_at : ℕ → Option ℕ
+flips_at s = flips_named (entry_at s)

@@ -1,9 +1,7 @@
 -- Document 01, 'BAS words': reading is the one code word at most two bits away, else unreadable.
-use Rattle.std.specs.Prelude.{Bool, true, false, List, [], ◌∷◌, ℕ, zero, suc, ◌+◌, leb}
+use Rattle.std.specs.Prelude.{Bool, true, false, List, [], ◌∷◌, ℕ, zero, suc, ◌+◌, leb, Option, Some, None}
 use Rattle.bits.specs.Bits.{low_bits, digit, xors}
 use Rattle.bas.specs.Words.{word_bits}
-use Rattle.bas.specs.declared.Word.{Word}
-use Rattle.bas.specs.declared.Word.TheVariants.{Code, Unreadable}
 
 -- how many bits are 1
 unfoldable pub weight : List Bool → ℕ
@@ -28,10 +26,11 @@ codes_near word zero = []
 codes_near word (suc n) = kept_if (near word n) n (codes_near word n)
 
 -- the one code of a list that has but one
-unfoldable pub the_one : List ℕ → Word
-the_one [] = Unreadable
-the_one (c ∷ []) = Code c
-the_one (c ∷ d ∷ cs) = Unreadable
+unfoldable pub the_one : List ℕ → Option ℕ
+the_one [] = None
+the_one (c ∷ []) = Some c
+the_one (c ∷ d ∷ cs) = None
 
-unfoldable pub reading_of : ℕ → Word
+-- the code of a word, or None for an unreadable one
+unfoldable pub reading_of : ℕ → Option ℕ
 reading_of word = the_one (codes_near word 256)

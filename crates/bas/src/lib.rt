@@ -1,4 +1,5 @@
-// BAS words: the word of a code, the order of its bits on the line, and the reading of a word that came (document 01, 'BAS words').
+// BAS words: the word of a code, the order of its bits on the line, and the reading of a word that
+// came (document 01, 'BAS words').
 #![tactic(auto)]
 
 ghost use Rattle.std.specs.Prelude.{◌≡◌};
@@ -7,14 +8,9 @@ ghost use Rattle.bas.specs.Words.{check_of, word_of, line_order};
 ghost use Rattle.bas.specs.Reading.{reading_of};
 ghost use Rattle.bas.specs.Flips.{flips_at};
 
-// What a word that came says.
-#[derive(Clone, Copy)]
-pub enum Word {
-    Code(u8),
-    Unreadable,
-}
-
-// For each remainder the bits to flip, or 65535 where no flip of at most two bits mends it (DECISIONS G8).
+// For each remainder the bits to flip, or 65535 where no flip of at most two bits mends it
+// (DECISIONS G8). The entries are numbers, for as Options they would take twice the store, and a
+// table is laid out anew where it is read (DECISIONS F36): `flips` gives the Option.
 const FLIPS: [u16; 256] = [
     0, 1, 2, 3, 4, 5, 6, 65535, 8, 9, 10, 65535, 12, 65535, 65535, 16448, 16, 17, 18, 2080, 20,
     65535, 65535, 65535, 24, 65535, 65535, 8448, 65535, 65535, 32896, 4608, 32, 33, 34, 2064, 36,
@@ -36,9 +32,11 @@ const FLIPS: [u16; 256] = [
     10240,
 ];
 
-// The check bits of a code, p0 highest. X^16 divided by the generator is X^8 + X^7 + X^5 + X^2 + 1 and a rest; so the code times X^8, divided
-// by it, is the code added up with itself 1, 3 and 6 places lower. Below X^8 the code times X^8 has nothing, and hence what the quotient times
-// the generator has there is the remainder: times X + 1, X^2, X^4 and X^7 + X^6, which is X + 1 again, six places up.
+// The check bits of a code, p0 highest. X^16 divided by the generator is X^8 + X^7 + X^5 + X^2 + 1
+// and a rest; so the code times X^8, divided by it, is the code added up with itself 1, 3 and 6
+// places lower. Below X^8 the code times X^8 has nothing, and hence what the quotient times the
+// generator has there is the remainder: times X + 1, X^2, X^4 and X^7 + X^6, which is X + 1 again,
+// six places up.
 pub fn check_octet(code: u8) -> u8
     ensures { result ≡ check_of code }
 {
@@ -48,15 +46,17 @@ pub fn check_octet(code: u8) -> u8
 }
 
 // The word of a code: its eight bits, and then its check bits.
+#[tactic(auto, using(crate::proofs::WordLaws::word_of_is))]
 pub fn word_of(code: u8) -> u16
     ensures { result ≡ word_of code }
 {
-    let check = check_octet(code);
-    (code as u16) * 256 + (check as u16)
+    u16::from_be_bytes([code, check_octet(code)])
 }
 
-// A word's sixteen bits as a block carries them, even frame first; and back, for the order is its own inverse. b1 and b3, two places apart,
-// change places, and p0 and p2; so do the neighbours b4 and b5, and p3 and p4. Where two bits differ, both are turned.
+// A word's sixteen bits as a block carries them, even frame first; and back, for the order is its
+// own inverse. b1 and b3, two places apart, change places, and p0 and p2; so do the neighbours b4
+// and b5, and p3 and p4. Where two bits differ, both are turned.
+#[tactic(auto, using(crate::proofs::OrderLaws::order_is))]
 pub fn line_order(word: u16) -> u16
     ensures { result ≡ number (line_order (low_bits 16 word)) }
 {
@@ -65,27 +65,28 @@ pub fn line_order(word: u16) -> u16
     word ^ apart ^ (apart << 2) ^ beside ^ (beside << 1)
 }
 
-// The bits to flip at a remainder.
-fn flips(remainder: u8) -> u16
+// The bits to flip at a remainder, where a flip of at most two bits mends it.
+fn flips(remainder: u8) -> Option<u16>
     ensures { result ≡ flips_at remainder }
 {
-    FLIPS[remainder as usize]
+    let flip = FLIPS[remainder as usize];
+    if flip == 65535 {
+        return None;
+    }
+    Some(flip)
 }
 
-// The reading of a word that came, in its natural order. Most words come unharmed, and the table is read only for the others (DECISIONS F36).
-pub fn read_word(word: u16) -> Word
+// The code of a word that came, in its natural order, or None for a word that is unreadable. Most
+// words come unharmed, and the table is read only for the others (DECISIONS F36).
+pub fn read_word(word: u16) -> Option<u8>
     ensures { result ≡ reading_of word }
 {
-    let code = (word / 256) as u8;
-    let check = (word % 256) as u8;
+    let [code, check] = word.to_be_bytes();
     let remainder = check_octet(code) ^ check;
     if remainder == 0 {
-        return Word::Code(code);
+        return Some(code);
     }
-    let flip = flips(remainder);
-    if flip == 65535 {
-        return Word::Unreadable;
-    }
-    let high = (flip / 256 % 256) as u8;
-    Word::Code(code ^ high)
+    let flip = flips(remainder)?;
+    let [high, _] = flip.to_be_bytes();
+    Some(code ^ high)
 }

@@ -2,14 +2,15 @@
 use mathlib.Core.Path.{◌≡◌, refl, sym, ap, ap₂, ◌∙◌}
 use mathlib.Core.Bool.{Bool, true, false, xor, ◌&&◌, ◌||◌}
 use mathlib.Core.List.{List, [], ◌∷◌, ◌++◌, append_assoc, append-nil}
-use Prim.Native.Nat.{ℕ, zero, suc, ◌+◌, ◌-◌, ◌*◌, ◌/◌, ◌%◌, ◌^◌, ◌<◌, min, max}
-use native.Mathlib.Nat.{suc_inj, suc-ne-zero, pow-suc, mul_assoc, add_assoc, mod-one, mod-eq_of_lt, mul-add-mod_self_right, mul-add-div_right, pow-succ', zero-div, zero-mul, add-mul, zero-add, suc-add, add_comm, add-zero, div-one, le_of_suc-le-suc}
+use Prim.Native.Nat.{ℕ, zero, suc, ◌+◌, ◌-◌, ◌*◌, ◌/◌, ◌%◌, ◌^◌, ◌≤◌, ◌<◌, min, max}
+use native.Mathlib.Nat.{suc_inj, suc-ne-zero, pow-suc, mul_assoc, add_assoc, mod-one, mod-eq_of_lt, mul-add-mod_self_right, mul-add-div_right, pow-succ', zero-div, zero-mul, add-mul, zero-add, suc-add, add_comm, add-zero, div-one, le_of_suc-le-suc, lt_of_lt_of_le}
 use native.Mathlib.Omega.{arith}
 use native.Mathlib.Numerals.{one-add}
 use lib.Dec.{eqb}
 use lib.ListN.{length, get_or, take, drop, length-append}
-use lib.Seq.{take_at, drop_at}
-use lib.Pow.{pow_pos, pow-add, mod-pow-add, high, split, shr-shr, shl-shr}
+use lib.Seq.{take_at, drop_at, length-take-le}
+use Rattle.std.proofs.lemmas.List.{take_more}
+use lib.Pow.{pow_pos, pow_mono, pow-add, mod-pow-add, high, split, shr-shr, shl-shr}
 use lib.Bits.{bit_xor, bit_or, bit_and, xor_step, or_step, and_step, xor_shr, or_shr, and_shr, differ}
 use Rattle.bits.proofs.BoolLaws.{xor_comm, xor_assoc, xor-false, xor_self}
 use Rattle.bits.specs.Bits.{odd, low_bits, octet_bits, sc_bit, without_sc, bits_of, digit, number, zeros, xors}
@@ -282,19 +283,17 @@ drop-xors (suc n) [] ys = refl
 drop-xors (suc n) (x ∷ xs) [] = sym (xors-nil (drop n xs))
 drop-xors (suc n) (x ∷ xs) (y ∷ ys) = drop-xors n xs ys
 
--- a list of eight is its eight elements
-pub eight-bits : (b : List Bool) → length b ≡ 8
-    → b ≡ get_or b 0 false ∷ get_or b 1 false ∷ get_or b 2 false ∷ get_or b 3 false ∷ get_or b 4 false ∷ get_or b 5 false ∷ get_or b 6 false ∷ get_or b 7 false ∷ []
-eight-bits [] h = absurd (omega arith)
-eight-bits (a ∷ []) h = absurd (omega arith)
-eight-bits (a ∷ b ∷ []) h = absurd (omega arith)
-eight-bits (a ∷ b ∷ c ∷ []) h = absurd (omega arith)
-eight-bits (a ∷ b ∷ c ∷ d ∷ []) h = absurd (omega arith)
-eight-bits (a ∷ b ∷ c ∷ d ∷ e ∷ []) h = absurd (omega arith)
-eight-bits (a ∷ b ∷ c ∷ d ∷ e ∷ f ∷ []) h = absurd (omega arith)
-eight-bits (a ∷ b ∷ c ∷ d ∷ e ∷ f ∷ g ∷ []) h = absurd (omega arith)
-eight-bits (a ∷ b ∷ c ∷ d ∷ e ∷ f ∷ g ∷ i ∷ []) h = refl
-eight-bits (a ∷ b ∷ c ∷ d ∷ e ∷ f ∷ g ∷ i ∷ j ∷ more) h = absurd (omega arith)
+-- one bit more
+pub number_more : (bs : List Bool) (i : ℕ) (d : Bool) → i < length bs → number (take (i + 1) bs) ≡ number (take i bs) * 2 + digit (get_or bs i d)
+unfolding number
+number_more bs i d h =
+    ap number (take_more bs i d h) ∙ number_append (take i bs) (get_or bs i d ∷ [])
+    ∙ ap (λ (n : ℕ). number (take i bs) * 2 + n) (omega arith)
+
+-- and it fits the octet
+pub number_below : (bs : List Bool) (i k : ℕ) → i ≤ length bs → i ≤ k → number (take i bs) < 2 ^ k
+number_below bs i k h room =
+    lt_of_lt_of_le (number_bound (take i bs)) (rw (length-take-le i bs h) (pow_mono {i = i} {j = k} room))
 
 -- sixteen bits as a number are two octets
 pub low_bits_two : (h l : ℕ) → l < 256 → low_bits 16 (h * 256 + l) ≡ octet_bits h ++ octet_bits l

@@ -1,6 +1,7 @@
 -- Document 01, 'Codes and bit places' and 'Refusal numbers', rows 2 to 4: how many octets a line block and the streams' buffers have.
 use Rattle.std.specs.Prelude.{Bool, not, ◌&&◌, List, [], ◌∷◌, ℕ, eqb, replicate}
-use Rattle.refusals.specs.Rows.{Row, row}
+use Rattle.refusals.specs.Rows.{row}
+use Rattle.refusals.specs.declared.Row.{Row}
 use Rattle.refusals.specs.declared.Refusal.TheVariants.{LineLength, VoiceLength, LsdLength}
 use Rattle.buffers.specs.Buffers.{Each, each, Buffers}
 

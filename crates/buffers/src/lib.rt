@@ -1,13 +1,12 @@
-// The buffers that calls are lent: how many octets each has, and the rows of a refusal that look at them (document 01, 'Codes and bit places'
+// The buffers that calls are lent: how many octets each has, and the rows of a call that look at them (document 01, 'Codes and bit places'
 // and 'Refusal numbers').
 #![tactic(auto)]
 
 ghost use Rattle.std.specs.Prelude.{◌≡◌};
-ghost use Rattle.refusals.specs.Rows.{in_turn, judged};
 ghost use Rattle.buffers.specs.Buffers.{each};
 ghost use Rattle.buffers.specs.Lengths.{fitting, line_row, stream_rows};
 
-use refusals::{Refusal, Ruling};
+use refusals::{Refusal, Row};
 
 // The octets of a line block, of a voice buffer and of a data buffer.
 pub const LINE: usize = 160;
@@ -23,17 +22,19 @@ pub fn lengths_fit(line: usize, voice: usize, lsd: usize) -> bool
     (line == LINE) & (voice == VOICE) & (lsd == LSD)
 }
 
-// The ruling of the rows so far with row 2, which looks at the length of a line block.
-pub fn judge_line(ruling: Ruling, line: usize) -> Ruling
-    ensures { result ≡ judged ruling (line_row line) }
+// Row 2, which looks at the length of a line block.
+pub fn line_row(line: usize) -> Row
+    ensures { result ≡ line_row line }
 {
-    refusals::judge(ruling, Refusal::LineLength, line != LINE)
+    Refusal::LineLength.row(line != LINE)
 }
 
-// The same with rows 3 and 4, which look at the lengths of the two streams' buffers.
-pub fn judge_streams(ruling: Ruling, voice: usize, lsd: usize) -> Ruling
-    ensures { result ≡ in_turn ruling (stream_rows (each voice lsd)) }
+// Rows 3 and 4, which look at the lengths of the two streams' buffers.
+pub fn stream_rows(voice: usize, lsd: usize) -> [Row; 2]
+    ensures { result ≡ stream_rows (each voice lsd) }
 {
-    let heard = refusals::judge(ruling, Refusal::VoiceLength, voice != VOICE);
-    refusals::judge(heard, Refusal::LsdLength, lsd != LSD)
+    [
+        Refusal::VoiceLength.row(voice != VOICE),
+        Refusal::LsdLength.row(lsd != LSD),
+    ]
 }

@@ -1,2 +1,1 @@
-pub mod SendLaws
 pub mod ReadLaws

@@ -7,7 +7,15 @@ use Rattle.recording.specs.Walk.{step_at, buffers_at}
 use Rattle.answers.specs.Answers.{reserved_octets, step_answer_of}
 use Rattle.calls.specs.Sending.{on}
 use Rattle.keeping.specs.declared.WalkState.{WalkState}
-use Rattle.calls.specs.declared.WalkStepped.{WalkStepped}
+use Rattle.answers.specs.declared.StepAnswer.{StepAnswer}
+
+-- what a step leaves of the walk, and its answer
+pub record WalkStepped : Type 0 where
+  pub state : WalkState
+  pub answer : StepAnswer
+
+abbrev pub walk_stepped : WalkState → StepAnswer → WalkStepped
+walk_stepped state answer = record { state = state; answer = answer }
 
 -- a walk that begins at a place, with a fresh reader
 abbrev pub walk_from : ℕ → WalkState
@@ -17,7 +25,7 @@ walk_from place = record { place = place; reader = fresh_in off; lost = 0; reser
 abbrev pub mark_after : ℕ → Bool → ℕ
 mark_after mark set = cond set (cond (eqb mark 0) 1 mark) 0
 
--- the walk and the answer that a step leaves
+-- one step
 abbrev pub step_taken : WalkState → List ℕ → Buffers → WalkStepped
 step_taken w recording b =
     let t = step_at recording w.place (on w.lost) w.reader b in

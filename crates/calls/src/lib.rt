@@ -1,14 +1,14 @@
-// Each call of a card driver by value, in the numbers that cross to C: the state goes in and comes back beside the answer. `card` has these calls
-// over a lent state. No call asks anything of its numbers and lengths: each of them is answered.
+// Each call of a card driver over a lent state, in the numbers that cross to C. No call asks anything
+// of its numbers and lengths: each of them is answered.
 #![tactic(auto)]
 
 ghost use Rattle.std.specs.Prelude.{◌≡◌};
 ghost use Rattle.buffers.specs.Buffers.{each};
 ghost use Rattle.sending.specs.Step.{line_of};
 ghost use Rattle.reading.specs.Step.{buffers_of};
-ghost use Rattle.calls.specs.Sending.{on, call_of, sent};
-ghost use Rattle.calls.specs.Reading.{read_taken};
-ghost use Rattle.calls.specs.Walking.{mark_after, walk_from, step_taken, step_buffers};
+ghost use Rattle.calls.specs.Sending.{on, call_of, send_stepped, sent};
+ghost use Rattle.calls.specs.Reading.{read_stepped, read_taken};
+ghost use Rattle.calls.specs.Walking.{mark_after, walk_from, walk_stepped, step_taken, step_buffers};
 
 use answers::{ReadAnswer, SendAnswer, StepAnswer};
 use control::Call;
@@ -16,34 +16,18 @@ use keeping::WalkState;
 use reader::Reader;
 use sender::Sender;
 
-#[derive(Clone, Copy)]
-pub struct SendStepped {
-    pub state: Sender,
-    pub answer: SendAnswer,
-}
-
-#[derive(Clone, Copy)]
-pub struct ReadStepped {
-    pub state: Reader,
-    pub answer: ReadAnswer,
-}
-
-#[derive(Clone, Copy)]
-pub struct WalkStepped {
-    pub state: WalkState,
-    pub answer: StepAnswer,
-}
-
-// A switch of C. It is an octet, for a bool that holds neither 0 nor 1 is undefined in C, and here every octet is answered (DECISIONS F30).
+// A switch of C. It is an octet, for a bool that holds neither 0 nor 1 is undefined in C, and here
+// every octet is answered (DECISIONS F30).
 fn is_on(switch: u8) -> bool
     ensures { result ≡ on switch }
 {
     switch != 0
 }
 
-// One sending call.
+// One sending call: the state is advanced, or untouched after a refusal.
+#[tactic(auto, unfolding(crate::specs::Sending::sent))]
 pub fn send_step(
-    state: Sender,
+    state: &mut Sender,
     mute: u8,
     code: u8,
     a: u8,
@@ -52,50 +36,35 @@ pub fn send_step(
     voice: &[u8],
     lsd: &[u8],
     line: &mut [u8],
-) -> SendStepped
-    ensures { (result ≡ sent state (call_of mute code a e t) (each voice.now lsd.now) line.old)
-        × (line.new ≡ line_of state (call_of mute code a e t) (each voice.now lsd.now) line.old) }
+) -> SendAnswer
+    ensures { (send_stepped state.new result ≡ sent state.old (call_of mute code a e t) (each voice.now lsd.now) line.old)
+        × (line.new ≡ line_of state.old (call_of mute code a e t) (each voice.now lsd.now) line.old) }
 {
     let call = Call {
         mute: is_on(mute),
-        code: code,
+        code,
         a: is_on(a),
         e: is_on(e),
         t: is_on(t),
     };
-    let outcome = sending::send(state, call, voice, lsd, line);
-    let next = outcome.state;
-    let answer = outcome.answer;
-    let told = answers::send_answer(answer);
-    SendStepped {
-        state: next,
-        answer: told,
-    }
+    SendAnswer::from(sending::send(state, call, voice, lsd, line))
 }
 
-// One block read.
-pub fn read_step(state: Reader, line: &[u8], voice: &mut [u8], lsd: &mut [u8]) -> ReadStepped
-    ensures { (result ≡ read_taken state line.now (each voice.old lsd.old))
-        × (each voice.new lsd.new ≡ buffers_of state line.now (each voice.old lsd.old)) }
+// One block read: the state is advanced, or untouched after a refusal.
+pub fn read_step(state: &mut Reader, line: &[u8], voice: &mut [u8], lsd: &mut [u8]) -> ReadAnswer
+    ensures { (read_stepped state.new result ≡ read_taken state.old line.now (each voice.old lsd.old))
+        × (each voice.new lsd.new ≡ buffers_of state.old line.now (each voice.old lsd.old)) }
 {
-    let outcome = reading::read(state, line, voice, lsd);
-    let next = outcome.state;
-    let answer = outcome.answer;
-    let told = answers::read_answer(answer);
-    ReadStepped {
-        state: next,
-        answer: told,
-    }
+    ReadAnswer::from(reading::read(state, line, voice, lsd))
 }
 
 // A walk that begins at a place, with a fresh reader.
 pub fn walk_from(place: usize) -> WalkState
     ensures { result ≡ walk_from place }
 {
-    let reader = reader::fresh();
     WalkState {
-        place: place,
-        reader: reader,
+        place,
+        reader: Reader::fresh(),
         lost: 0,
         reserved: [0; 3],
     }
@@ -105,42 +74,31 @@ pub fn walk_from(place: usize) -> WalkState
 fn mark_after(mark: u8, set: bool) -> u8
     ensures { result ≡ mark_after mark set }
 {
-    if set {
-        if mark == 0 {
-            return 1;
-        }
-        return mark;
+    match (set, mark) {
+        (false, _) => 0,
+        (true, 0) => 1,
+        (true, kept) => kept,
     }
-    0
 }
 
-// One step of a walk over a recording.
+// One step of a walk over a recording: it is moved on, or untouched after a refusal.
 pub fn walk_step(
-    state: WalkState,
+    state: &mut WalkState,
     recording: &[u8],
     voice: &mut [u8],
     lsd: &mut [u8],
-) -> WalkStepped
-    ensures { (result ≡ step_taken state recording.now (each voice.old lsd.old))
-        × (each voice.new lsd.new ≡ step_buffers state recording.now (each voice.old lsd.old)) }
+) -> StepAnswer
+    ensures { (walk_stepped state.new result ≡ step_taken state.old recording.now (each voice.old lsd.old))
+        × (each voice.new lsd.new ≡ step_buffers state.old recording.now (each voice.old lsd.old)) }
 {
-    let reader = state.reader;
-    let lost = state.lost;
-    let reserved = state.reserved;
-    let stepped = walk::step_from(recording, state.place, is_on(lost), reader, voice, lsd);
-    let next = stepped.reader;
-    let stands = stepped.place;
-    let mark = mark_after(lost, stepped.lost);
-    let answer = stepped.answer;
-    let told = answers::step_answer(answer);
-    let after = WalkState {
-        place: stands,
-        reader: next,
-        lost: mark,
-        reserved: reserved,
+    let found = *state;
+    let lost = is_on(found.lost);
+    let stepped = walk::step_from(recording, found.place, lost, found.reader, voice, lsd);
+    *state = WalkState {
+        place: stepped.place,
+        reader: stepped.reader,
+        lost: mark_after(found.lost, stepped.lost),
+        ..found
     };
-    WalkStepped {
-        state: after,
-        answer: told,
-    }
+    StepAnswer::from(stepped.answer)
 }

@@ -1,6 +1,6 @@
-// What a card driver in C calls, as a library: `card_c` exports these functions to C under the same names. States are lent, answers are numbers,
-// and no call asks anything of its numbers and lengths: each of them is answered. A call over a lent state is thin over one by value, in a form
-// that `lending` says over any state.
+// What a card driver in C calls, as a library: `card_c` exports these functions to C under the same
+// names. States are lent, answers are numbers (1 and 0 for a bool, which C may fill with others),
+// and no call asks anything of its numbers and lengths: each of them is answered.
 #![tactic(auto)]
 
 ghost use Rattle.std.specs.Prelude.{◌≡◌};
@@ -15,7 +15,9 @@ ghost use Rattle.answers.specs.Answers.{search_answer_of};
 ghost use Rattle.calls.specs.Sending.{call_of};
 ghost use Rattle.calls.specs.Walking.{walk_from};
 ghost use Rattle.presetting.specs.Presetting.{preset_given};
-ghost use Rattle.saving.specs.Saved.{sender_saved, sender_kept, sender_loaded, reader_saved, reader_kept, reader_loaded};
+ghost use Rattle.saving.specs.Saved.{loaded_over};
+ghost use Rattle.saving.specs.Saved.{sender_saved, sender_kept, sender_loaded};
+ghost use Rattle.saving.specs.Saved.{reader_saved, reader_kept, reader_loaded};
 ghost use Rattle.keeping.specs.SavedWalk.{walk_saved, walk_kept, walk_loaded};
 ghost use Rattle.asking.specs.Asked.{library, fits_version, sender_told, reader_told, counts_of, code_told};
 ghost use Rattle.card.specs.Told.{SendTold, ReadTold, StepTold, PresetTold};
@@ -39,7 +41,16 @@ pub fn delampuk_about() -> Library
 pub fn delampuk_fits(version: u32) -> u8
     ensures { result ≡ fits_version version }
 {
-    asking::fits(version)
+    u8::from(asking::fits(version))
+}
+
+// The lent state becomes the one that was loaded: 1. Where none was, it stays as it is: 0.
+fn load<T: Copy + Drop>(state: &mut T, loaded: Option<T>) -> u8
+    ensures { (result ≡ (loaded_over state.old loaded).answer)
+        × (state.new ≡ (loaded_over state.old loaded).state) }
+{
+    *state = loaded.unwrap_or(*state);
+    u8::from(loaded.is_some())
 }
 
 // ---- sending
@@ -48,7 +59,7 @@ pub fn delampuk_fits(version: u32) -> u8
 pub fn delampuk_start_sender(state: &mut Sender)
     ensures { state.new ≡ fresh_with audio_off }
 {
-    *state = sender::fresh();
+    *state = Sender::fresh();
 }
 
 // One sending call: the state is advanced, or untouched after a refusal.
@@ -65,16 +76,14 @@ pub fn delampuk_send(
 ) -> SendAnswer
     ensures { SendTold state.old (call_of mute code a e t) (each voice.now lsd.now) line.old result state.new line.new }
 {
-    let stepped = calls::send_step(*state, mute, code, a, e, t, voice, lsd, line);
-    *state = stepped.state;
-    stepped.answer
+    calls::send_step(state, mute, code, a, e, t, voice, lsd, line)
 }
 
 // What a sender has in force, chosen and due.
 pub fn delampuk_tell_sender(state: &Sender) -> SenderTold
     ensures { result ≡ sender_told state.now }
 {
-    asking::sender_told(*state)
+    SenderTold::from(*state)
 }
 
 // A sender's saved form, and a sender from one.
@@ -82,25 +91,21 @@ pub fn delampuk_save_sender(state: &Sender, saved: &mut [u8]) -> u8
     ensures { (result ≡ sender_saved state.now saved.old)
         × (saved.new ≡ sender_kept state.now saved.old) }
 {
-    saving::save_sender(*state, saved)
+    u8::from(saving::save_sender(*state, saved))
 }
 
 pub fn delampuk_load_sender(state: &mut Sender, saved: &[u8]) -> u8
     ensures { (result ≡ (sender_loaded state.old saved.now).answer)
         × (state.new ≡ (sender_loaded state.old saved.now).state) }
 {
-    let stepped = saving::load_sender(*state, saved);
-    *state = stepped.state;
-    stepped.answer
+    load(state, saving::load_sender(saved))
 }
 
 // A preset's state to start from, and the data code to offer; or a refusal, and the state as it was.
 pub fn delampuk_read_preset(state: &mut Sender, bits: u16) -> PresetAnswer
     ensures { PresetTold state.old bits result state.new }
 {
-    let stepped = presetting::preset_step(*state, bits);
-    *state = stepped.state;
-    stepped.answer
+    presetting::preset_step(state, bits)
 }
 
 // A state's chosen audio and data in force, as a preset.
@@ -116,7 +121,7 @@ pub fn delampuk_write_preset(state: &Sender) -> PresetBits
 pub fn delampuk_start_reader(state: &mut Reader)
     ensures { state.new ≡ fresh_in off }
 {
-    *state = reader::fresh();
+    *state = Reader::fresh();
 }
 
 // One block read: the state is advanced, or untouched after a refusal.
@@ -128,16 +133,14 @@ pub fn delampuk_read(
 ) -> ReadAnswer
     ensures { ReadTold state.old line.now (each voice.old lsd.old) result state.new (each voice.new lsd.new) }
 {
-    let stepped = calls::read_step(*state, line, voice, lsd);
-    *state = stepped.state;
-    stepped.answer
+    calls::read_step(state, line, voice, lsd)
 }
 
 // What a reader has in force and due, and its place.
 pub fn delampuk_tell_reader(state: &Reader) -> ReaderTold
     ensures { result ≡ reader_told state.now }
 {
-    asking::reader_told(*state)
+    ReaderTold::from(*state)
 }
 
 // A reader's saved form, and a reader from one.
@@ -145,16 +148,14 @@ pub fn delampuk_save_reader(state: &Reader, saved: &mut [u8]) -> u8
     ensures { (result ≡ reader_saved state.now saved.old)
         × (saved.new ≡ reader_kept state.now saved.old) }
 {
-    saving::save_reader(*state, saved)
+    u8::from(saving::save_reader(*state, saved))
 }
 
 pub fn delampuk_load_reader(state: &mut Reader, saved: &[u8]) -> u8
     ensures { (result ≡ (reader_loaded state.old saved.now).answer)
         × (state.new ≡ (reader_loaded state.old saved.now).state) }
 {
-    let stepped = saving::load_reader(*state, saved);
-    *state = stepped.state;
-    stepped.answer
+    load(state, saving::load_reader(saved))
 }
 
 // ---- recordings
@@ -163,7 +164,7 @@ pub fn delampuk_load_reader(state: &mut Reader, saved: &[u8]) -> u8
 pub fn delampuk_search(recording: &[u8], start: usize) -> SearchAnswer
     ensures { result ≡ search_answer_of (search_of recording.now start) }
 {
-    answers::search_answer(search::search(recording, start))
+    SearchAnswer::from(search::search(recording, start))
 }
 
 // A walk that begins at a place, with a fresh reader.
@@ -182,9 +183,7 @@ pub fn delampuk_step(
 ) -> StepAnswer
     ensures { StepTold state.old recording.now (each voice.old lsd.old) result state.new (each voice.new lsd.new) }
 {
-    let stepped = calls::walk_step(*state, recording, voice, lsd);
-    *state = stepped.state;
-    stepped.answer
+    calls::walk_step(state, recording, voice, lsd)
 }
 
 // A walk's saved form, and a walk from one. The recording is not among it.
@@ -192,16 +191,14 @@ pub fn delampuk_save_walk(state: &WalkState, saved: &mut [u8]) -> u8
     ensures { (result ≡ walk_saved state.now saved.old)
         × (saved.new ≡ walk_kept state.now saved.old) }
 {
-    keeping::save_walk(*state, saved)
+    u8::from(keeping::save_walk(*state, saved))
 }
 
 pub fn delampuk_load_walk(state: &mut WalkState, saved: &[u8]) -> u8
     ensures { (result ≡ (walk_loaded state.old saved.now).answer)
         × (state.new ≡ (walk_loaded state.old saved.now).state) }
 {
-    let stepped = keeping::load_walk(*state, saved);
-    *state = stepped.state;
-    stepped.answer
+    load(state, keeping::load_walk(saved))
 }
 
 // The listing of a recording as text, and how long it is: the text's length and one more where it does not fit, and then what fits is
@@ -218,7 +215,7 @@ pub fn delampuk_list(recording: &[u8], text: &mut [u8]) -> usize
 pub fn delampuk_count(mode: Mode) -> Counts
     ensures { result ≡ counts_of mode }
 {
-    asking::count_of(mode)
+    Counts::from(mode)
 }
 
 // What a code is, and the places that it gives to a stream.

@@ -1,10 +1,9 @@
 -- What is known where a word goes: the state is in range, the buffers have their lengths, and the rule is that of the state and mute.
-use mathlib.Core.Path.{◌≡◌, refl}
+use mathlib.Core.Path.{◌≡◌}
 use mathlib.Core.Bool.{Bool, true, false, not, ◌&&◌}
 use Prim.Native.Nat.{ℕ}
 use borrow.Author.Tests.{eqb-true, not-false}
-use Rattle.refusals.specs.declared.Ruling.{Ruling}
-use Rattle.refusals.specs.declared.Ruling.TheVariants.{Refuse, Accept}
+use Rattle.std.specs.Prelude.{Ok}
 use Rattle.refusals.proofs.RowLaws.{none_given}
 use Rattle.buffers.specs.Buffers.{Each}
 use Rattle.buffers.specs.Lengths.{line_octets, stream_octets, fitting}
@@ -13,7 +12,6 @@ use Rattle.codes.specs.Carried.{sender_carries}
 use Rattle.sender.specs.State.{state_in_range}
 use Rattle.control.specs.Rules.{rule_of}
 use Rattle.control.specs.Refusals.{rows, ruling_of, goes_plain, clashes}
-use Rattle.control.specs.Decisions.{decision_by, decision_of}
 use Rattle.sender.specs.declared.Sender.{Sender}
 use Rattle.control.specs.declared.Call.{Call}
 
@@ -24,7 +22,7 @@ pub record Goes (s : Sender) (c : Call) (l : ℕ) (n : Each ℕ) : Type 0 where
   pub known : goes_plain (rule_of s c.mute) ≡ true → sender_carries c.code ≡ true
   pub apart : goes_plain (rule_of s c.mute) ≡ true → clashes s c.code ≡ false
 
-pub goes : (s : Sender) (c : Call) (line : ℕ) (n : Each ℕ) → ruling_of s c line n ≡ Accept → Goes s c line n
+pub goes : (s : Sender) (c : Call) (line : ℕ) (n : Each ℕ) → ruling_of s c line n ≡ Ok tt → Goes s c line n
 unfolding ruling_of
 goes s c line n e =
     let h = none_given (rows s c line n) e in
@@ -39,15 +37,6 @@ goes s c line n e =
     plain : {a : Bool} → a ≡ true → (b : Bool) → (a && b) ≡ false → b ≡ false
     plain g b k = rw g at k
 
--- a decision has its call's ruling
-ruling_kept : (q : Ruling) (s : Sender) (c : Call) → (decision_by q s c).ruling ≡ q
-ruling_kept (Refuse r) s c = refl
-ruling_kept Accept s c = refl
-
-pub decision_ruling : (s : Sender) (c : Call) (line : ℕ) (n : Each ℕ) → (decision_of s c line n).ruling ≡ ruling_of s c line n
-unfolding decision_of
-decision_ruling s c line n = ruling_kept (ruling_of s c line n) s c
-
--- so the lengths fit a block
-pub goes-fitting : (s : Sender) (c : Call) (line : ℕ) (n : Each ℕ) → ruling_of s c line n ≡ Accept → fitting line n ≡ true
+-- the lengths fit a block
+pub goes-fitting : (s : Sender) (c : Call) (line : ℕ) (n : Each ℕ) → ruling_of s c line n ≡ Ok tt → fitting line n ≡ true
 goes-fitting s c line n e = let g = goes s c line n e in fits line n g.line g.streams

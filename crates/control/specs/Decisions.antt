@@ -1,7 +1,7 @@
 -- Document 01, 'Sending a block': what is decided of a call before its block is written.
-use Rattle.std.specs.Prelude.{ℕ}
-use Rattle.refusals.specs.declared.Ruling.{Ruling}
-use Rattle.refusals.specs.declared.Ruling.TheVariants.{Refuse, Accept}
+use Rattle.std.specs.Prelude.{ℕ, Result, Ok, Err}
+use Rattle.refusals.specs.Rows.{Ruling}
+use Rattle.refusals.specs.declared.Refusal.{Refusal}
 use Rattle.buffers.specs.Buffers.{Each}
 use Rattle.numbers.specs.Numbers.{following}
 use Rattle.control.specs.Rules.{rule_of}
@@ -10,7 +10,6 @@ use Rattle.control.specs.Refusals.{ruling_of}
 use Rattle.sender.specs.declared.Sender.{Sender}
 use Rattle.control.specs.declared.Call.{Call}
 use Rattle.control.specs.declared.Plan.{Plan}
-use Rattle.control.specs.declared.Answer.TheVariants.{Refused}
 use Rattle.control.specs.declared.Decision.{Decision}
 
 -- the state that a plan leaves; its remainder is still that of the block before
@@ -23,13 +22,13 @@ abbrev pub with_remainder : Sender → ℕ → Sender
 with_remainder s remainder =
     record { chosen = s.chosen; mode = s.mode; block = s.block; due = s.due; remainder = remainder }
 
--- where a row refuses, no word goes and the state comes back as given; else the word goes by the rule of the state and mute
-abbrev pub decision_by : Ruling → Sender → Call → Decision
-decision_by (Refuse r) s c = record { ruling = Refuse r; word = 0; answer = Refused r; next = s }
-decision_by Accept s c =
+-- where a row refuses, no word goes; else the word goes by the rule of the state and mute
+abbrev pub decision_by : Ruling → Sender → Call → Result Decision Refusal
+decision_by (Err r) s c = Err r
+decision_by (Ok u) s c =
     let p = plan_by (rule_of s c.mute) s c.code in
-    record { ruling = Accept; word = p.word; answer = p.answer; next = next_by p s }
+    Ok (record { word = p.word; went = p.went; next = next_by p s })
 
 -- what is decided of a call with a line block and buffers of these lengths
-unfoldable pub decision_of : Sender → Call → ℕ → Each ℕ → Decision
+unfoldable pub decision_of : Sender → Call → ℕ → Each ℕ → Result Decision Refusal
 decision_of s c line n = decision_by (ruling_of s c line n) s c

@@ -1,9 +1,10 @@
 -- Document 01, 'Refusal numbers', rows 1 to 8.
-use Rattle.std.specs.Prelude.{Bool, true, false, not, ◌&&◌, ◌||◌, List, [], ◌∷◌, ◌++◌, ℕ, eqb}
+use Rattle.std.specs.Prelude.{Bool, true, false, not, ◌&&◌, ◌||◌, List, [], ◌∷◌, ◌++◌, ℕ, eqb, Result, Ok, Err}
 use Rattle.refusals.specs.Numbers.{number_of}
-use Rattle.refusals.specs.Rows.{Row, row, first_given}
+use Rattle.refusals.specs.Rows.{Ruling, row, first_given}
 use Rattle.refusals.specs.declared.Refusal.TheVariants.{BadState, NotCarried, ForbiddenItem, AudioWhileMuted, Overlap}
-use Rattle.refusals.specs.declared.Ruling.{Ruling}
+use Rattle.refusals.specs.declared.Row.{Row}
+use Rattle.refusals.specs.declared.Refusal.{Refusal}
 use Rattle.buffers.specs.Buffers.{Each}
 use Rattle.buffers.specs.Lengths.{line_row, stream_rows}
 use Rattle.modes.specs.Owners.{overlaps}
@@ -16,8 +17,8 @@ use Rattle.sender.specs.declared.Sender.{Sender}
 use Rattle.control.specs.declared.Call.{Call}
 use Rattle.control.specs.declared.Rule.{Rule}
 use Rattle.control.specs.declared.Rule.TheVariants.{AsItem, MuteOff, Release, Offered}
-use Rattle.control.specs.declared.Answer.{Answer}
-use Rattle.control.specs.declared.Answer.TheVariants.{Sent, Held, Refused}
+use Rattle.control.specs.declared.Went.{Went}
+use Rattle.control.specs.declared.Went.TheVariants.{Sent, Held}
 
 -- an offered code is an audio command, (000)[0] and (000)[31] too; it is a data command
 abbrev pub is_audio : ℕ → Bool
@@ -60,13 +61,16 @@ rows s c line n =
 unfoldable pub ruling_of : Sender → Call → ℕ → Each ℕ → Ruling
 ruling_of s c line n = first_given (rows s c line n)
 
+-- what a call answers: what became of the offered code, or a refusal
+abbrev pub Answer : Type 0
+Answer = Result Went Refusal
+
 -- what an answer stands for: its kind, sent, held or refused; and the number of the refusal, 0 where nothing is refused
 abbrev pub kind_of : Answer → ℕ
-kind_of Sent = 0
-kind_of Held = 1
-kind_of (Refused r) = 2
+kind_of (Ok Sent) = 0
+kind_of (Ok Held) = 1
+kind_of (Err r) = 2
 
 abbrev pub number_in : Answer → ℕ
-number_in Sent = 0
-number_in Held = 0
-number_in (Refused r) = number_of r
+number_in (Ok w) = 0
+number_in (Err r) = number_of r

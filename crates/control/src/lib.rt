@@ -9,14 +9,13 @@ ghost use Rattle.control.specs.Plans.{plan_by};
 ghost use Rattle.control.specs.Refusals.{clashes, goes_plain, goes_as_item, ruling_of};
 ghost use Rattle.control.specs.Decisions.{next_by, decision_of};
 
-use bas::Word;
-use modes::Mode;
-use refusals::{Refusal, Ruling};
+use modes::{AUDIO_OFF, Mode};
+use refusals::Refusal;
 use sender::Sender;
-use slots::Due;
+use slots::{Due, Slot};
 
 // What a call says beside its buffers.
-#[derive(Clone, Copy)]
+#[derive(Clone, Copy, Debug, PartialEq, Eq)]
 pub struct Call {
     pub mute: bool,
     pub code: u8,
@@ -26,7 +25,7 @@ pub struct Call {
 }
 
 // By which rule a word goes out.
-#[derive(Clone, Copy)]
+#[derive(Clone, Copy, Debug, PartialEq, Eq)]
 pub enum Rule {
     AsItem,
     MuteOff,
@@ -34,39 +33,52 @@ pub enum Rule {
     Offered,
 }
 
-#[derive(Clone, Copy)]
-pub enum Answer {
+// What became of the offered code in a call that is accepted: it went, or it is held and another word went.
+#[derive(Clone, Copy, Debug, PartialEq, Eq)]
+pub enum Went {
     Sent,
     Held,
-    Refused(Refusal),
 }
 
 // What a rule sends and answers, and what it leaves of the state.
 #[derive(Clone, Copy)]
 pub struct Plan {
     pub word: u8,
-    pub answer: Answer,
+    pub went: Went,
     pub chosen: u8,
     pub mode: Mode,
     pub due: u8,
 }
 
-// What is decided of a call. Where it is refused, no word goes and the next state is the one given; where it is accepted, the next state still
-// has the remainder of the block before.
+// What is decided of a call that is accepted; the next state still has the remainder of the block before.
 #[derive(Clone, Copy)]
 pub struct Decision {
-    pub ruling: Ruling,
     pub word: u8,
-    pub answer: Answer,
+    pub went: Went,
     pub next: Sender,
 }
 
+impl Rule {
+    fn goes_plain(self) -> bool
+        ensures { result ≡ goes_plain self }
+    {
+        matches!(self, Rule::Offered)
+    }
+
+    fn goes_as_item(self) -> bool
+        ensures { result ≡ goes_as_item self }
+    {
+        matches!(self, Rule::AsItem)
+    }
+}
+
+#[tactic(auto, unfolding(crate::specs::Rules::rule_of))]
 fn rule_of(s: Sender, mute: bool) -> Rule
     ensures { result ≡ rule_of s mute }
 {
     let due = s.due != 0;
-    let sounding = s.mode.audio != 31;
-    let choosing = s.chosen != 31;
+    let sounding = s.mode.audio != AUDIO_OFF;
+    let choosing = s.chosen != AUDIO_OFF;
     if due {
         return Rule::AsItem;
     }
@@ -79,120 +91,76 @@ fn rule_of(s: Sender, mute: bool) -> Rule
     Rule::Offered
 }
 
-fn goes_plain(rule: Rule) -> bool
-    ensures { result ≡ goes_plain rule }
-{
-    match rule {
-        Rule::AsItem => false,
-        Rule::MuteOff => false,
-        Rule::Release => false,
-        Rule::Offered => true,
-    }
-}
-
-fn goes_as_item(rule: Rule) -> bool
-    ensures { result ≡ goes_as_item rule }
-{
-    match rule {
-        Rule::AsItem => true,
-        Rule::MuteOff => false,
-        Rule::Release => false,
-        Rule::Offered => false,
-    }
-}
-
-fn clash(s: Sender, code: u8) -> bool
+// Whether the offered code overlaps, as an audio or a data command.
+#[tactic(auto, unfolding(crate::specs::Refusals::clashes))]
+fn clashes(s: Sender, code: u8) -> bool
     ensures { result ≡ clashes s code }
 {
-    let mode = s.mode;
-    let v = code % 32;
-    if code / 32 == 0 {
-        return modes::overlap(modes::with_audio(mode, v));
+    match code / 32 {
+        0 => s.mode.with_audio(code % 32).overlaps(),
+        3 => s.chosen_mode().with_lsd(code % 32).overlaps(),
+        _ => false,
     }
-    if code / 32 == 3 {
-        return modes::overlap(modes::with_lsd(sender::chosen_mode(s), v));
-    }
-    false
 }
 
-// The rows of a call with buffers of these lengths, in their order.
-fn ruling_of(s: Sender, c: Call, line: usize, voice: usize, lsd: usize) -> Ruling
+// The ruling of a call with buffers of these lengths: its rows, in their order. Rows 5 to 8 look only at an offered code that is not held.
+#[tactic(auto, unfolding(crate::specs::Refusals::ruling_of))]
+fn ruling_of(s: Sender, c: Call, line: usize, voice: usize, lsd: usize) -> Result<(), Refusal>
     ensures { result ≡ ruling_of s c line (each voice lsd) }
 {
-    let mute = c.mute;
-    let code = c.code;
-    let rule = rule_of(s, mute);
-    let plain = goes_plain(rule);
-    let item = goes_as_item(rule);
-    let one = refusals::judge(Ruling::Accept, Refusal::BadState, !sender::in_range(s));
-    let two = buffers::judge_line(one, line);
-    let four = buffers::judge_streams(two, voice, lsd);
-    let five = refusals::judge(
-        four,
-        Refusal::NotCarried,
-        plain & !codes::sender_carries(code),
-    );
-    let six = refusals::judge(five, Refusal::ForbiddenItem, item & (code / 32 == 7));
-    let seven = refusals::judge(
-        six,
-        Refusal::AudioWhileMuted,
-        plain & (code / 32 == 0) & mute,
-    );
-    refusals::judge(seven, Refusal::Overlap, plain & clash(s, code))
+    let rule = rule_of(s, c.mute);
+    let plain = rule.goes_plain();
+    let item = rule.goes_as_item();
+    let attribute = c.code / 32;
+    let [voice_length, lsd_length] = buffers::stream_rows(voice, lsd);
+    refusals::first_given(&[
+        Refusal::BadState.row(!s.is_in_range()),
+        buffers::line_row(line),
+        voice_length,
+        lsd_length,
+        Refusal::NotCarried.row(plain & !codes::sender_carries(c.code)),
+        Refusal::ForbiddenItem.row(item & (attribute == 7)),
+        Refusal::AudioWhileMuted.row(plain & (attribute == 0) & c.mute),
+        Refusal::Overlap.row(plain & clashes(s, c.code)),
+    ])
 }
 
-// What the offered code leaves, where it goes as a command.
-fn offered_plan(s: Sender, code: u8) -> Plan
-    ensures { result ≡ plan_by Rule.Offered s code }
-{
-    let mode = s.mode;
-    let command = codes::command_of(code);
-    let offered = codes::offer(command, sender::chosen_mode(s));
-    let next = codes::offer(command, mode);
-    let slot = slots::slot_of(slots::due_after(Due::Plain, Word::Code(code)));
-    Plan {
-        word: code,
-        answer: Answer::Sent,
-        chosen: offered.audio,
-        mode: next,
-        due: slot.kind,
-    }
-}
-
+#[tactic(auto, unfolding(crate::specs::Plans::plan_by))]
 fn plan_by(rule: Rule, s: Sender, code: u8) -> Plan
     ensures { result ≡ plan_by rule s code }
 {
-    let mode = s.mode;
-    let chosen = s.chosen;
     match rule {
         Rule::AsItem => Plan {
             word: code,
-            answer: Answer::Sent,
-            chosen: chosen,
-            mode: mode,
+            went: Went::Sent,
+            chosen: s.chosen,
+            mode: s.mode,
             due: 0,
         },
-        Rule::MuteOff => {
-            let off = modes::with_audio(mode, 31);
+        Rule::MuteOff => Plan {
+            word: AUDIO_OFF,
+            went: Went::Held,
+            chosen: s.chosen,
+            mode: s.mode.with_audio(AUDIO_OFF),
+            due: 0,
+        },
+        Rule::Release => Plan {
+            word: s.chosen,
+            went: Went::Held,
+            chosen: s.chosen,
+            mode: s.chosen_mode(),
+            due: 0,
+        },
+        Rule::Offered => {
+            let command = codes::command_of(code);
             Plan {
-                word: 31,
-                answer: Answer::Held,
-                chosen: chosen,
-                mode: off,
-                due: 0,
+                word: code,
+                went: Went::Sent,
+                chosen: command.offer(s.chosen_mode()).audio,
+                mode: command.offer(s.mode),
+                due: Slot::from(Due::Plain.after(Some(code))).kind,
             }
         }
-        Rule::Release => {
-            let on = sender::chosen_mode(s);
-            Plan {
-                word: chosen,
-                answer: Answer::Held,
-                chosen: chosen,
-                mode: on,
-                due: 0,
-            }
-        }
-        Rule::Offered => offered_plan(s, code),
     }
 }
 
@@ -200,40 +168,31 @@ fn plan_by(rule: Rule, s: Sender, code: u8) -> Plan
 fn next_by(p: Plan, s: Sender) -> Sender
     ensures { result ≡ next_by p s }
 {
-    let old = s.block;
-    let mode = p.mode;
-    let block = numbers::next_block(old);
     Sender {
         chosen: p.chosen,
-        mode: mode,
-        block: block,
+        mode: p.mode,
+        block: s.block.next(),
         due: p.due,
         remainder: s.remainder,
     }
 }
 
 // What is decided of a call with a line block and buffers of these lengths (DECISIONS F45).
-pub fn decide(s: Sender, c: Call, line: usize, voice: usize, lsd: usize) -> Decision
+#[tactic(auto, unfolding(crate::specs::Decisions::decision_of))]
+pub fn decide(
+    s: Sender,
+    c: Call,
+    line: usize,
+    voice: usize,
+    lsd: usize,
+) -> Result<Decision, Refusal>
     ensures { result ≡ decision_of s c line (each voice lsd) }
 {
-    let ruling = ruling_of(s, c, line, voice, lsd);
-    match ruling {
-        Ruling::Refuse(why) => Decision {
-            ruling: ruling,
-            word: 0,
-            answer: Answer::Refused(why),
-            next: s,
-        },
-        Ruling::Accept => {
-            let plan = plan_by(rule_of(s, c.mute), s, c.code);
-            let answer = plan.answer;
-            let next = next_by(plan, s);
-            Decision {
-                ruling: ruling,
-                word: plan.word,
-                answer: answer,
-                next: next,
-            }
-        }
-    }
+    ruling_of(s, c, line, voice, lsd)?;
+    let plan = plan_by(rule_of(s, c.mute), s, c.code);
+    Ok(Decision {
+        word: plan.word,
+        went: plan.went,
+        next: next_by(plan, s),
+    })
 }

@@ -4,7 +4,7 @@ use mathlib.Core.Path.{◌≡◌, refl, sym, ap, ap₂, ◌∙◌, subst}
 use mathlib.Core.Bool.{Bool}
 use mathlib.Core.List.{List, ◌++◌, append_assoc}
 use Prim.Native.Nat.{ℕ, zero, suc, ◌+◌, ◌*◌, ◌/◌, ◌%◌, ◌^◌, ◌≤◌, ◌<◌}
-use native.Mathlib.Nat.{mod-lt, mod-eq_of_lt}
+use native.Mathlib.Nat.{mod-lt}
 use native.Mathlib.Omega.{arith}
 use borrow.Author.Tests.{le-leb, lt-leb, lt-ltb, le-ltb}
 use lib.Bits.{bit_xor, bit_and, xor_lt, xor_shr, and_zero_l, and_block, and_mask, and_high}
@@ -192,9 +192,6 @@ summed_with_c s h = and-octets s (summed_from 0 s) 84 all_but_c 8 each
         (lit< tt, and_mask (get_or s (84 + j) 0 % 256) 8 ∙ omega (arith, after-c s (84 + j) (omega arith) (omega arith)))
 
 -- ---- what the machine adds up is what is folded
-whole-eight : (s : List ℕ) (at : ℕ) → bit_and (eight_at s at) 0xFFFF_FFFF_FFFF_FFFF ≡ eight_at s at
-whole-eight s at = and_mask (eight_at s at) 64 ∙ mod-eq_of_lt (number_at-lt s at 8)
-
 high_half : (s : List ℕ) (at : ℕ) → eight_at s at / 2 ^ 32 ≡ number_at s at 4
 unfolding number_at
 high_half s at = omega arith
@@ -209,26 +206,25 @@ half_is s h =
     )
 
 pub two_is : (s : List ℕ) (k : ℕ) → length s ≡ 160 → k < 2
-    → bit_xor (eight_at s (44 + 8 * k)) (eight_at s (44 + 8 * k + 60)) ≡ fold_of (summed_from 0 s) (suc k)
+    → bit_xor (eight_at s (44 + 8 * k)) (eight_at s (104 + 8 * k)) ≡ fold_of (summed_from 0 s) (suc k)
 two_is s zero h l = ap₂ bit_xor (summed-before s 44 8 (omega arith) (omega arith)) (summed-after s 104 8 (omega arith) (omega arith))
 two_is s (suc zero) h l = ap₂ bit_xor (summed-before s 52 8 (omega arith) (omega arith)) (summed-after s 112 8 (omega arith) (omega arith))
 two_is s (suc (suc k)) h l = absurd (omega arith)
 
-pub three_is : (s : List ℕ) (k mask : ℕ) → length s ≡ 160 → k < 5
-    → bit_and (eight_at s (8 * k + 60)) mask ≡ eight_at (summed_from 0 s) (8 * k + 60)
-    → bit_xor (bit_xor (eight_at s (8 * k)) (bit_and (eight_at s (8 * k + 60)) mask)) (eight_at s (8 * k + 120)) ≡ fold_of (summed_from 0 s) (suc (suc (suc k)))
-three_is s k mask h l e =
+-- what stands in the middle is the eight there as it is summed
+pub three_is : (s : List ℕ) (k middle : ℕ) → length s ≡ 160 → k < 5 → middle ≡ eight_at (summed_from 0 s) (60 + 8 * k)
+    → bit_xor (bit_xor (eight_at s (8 * k)) middle) (eight_at s (120 + 8 * k)) ≡ fold_of (summed_from 0 s) (suc (suc (suc k)))
+three_is s k middle h l e =
     let t = summed_from 0 s in
-    let middle : 8 * k + 60 ≡ 40 + (4 + 8 * suc (suc k)) = omega arith in
-    let last : 8 * k + 120 ≡ 100 + (4 + 8 * suc (suc k)) = omega arith in
+    let second : 60 + 8 * k ≡ 40 + (4 + 8 * suc (suc k)) = omega arith in
+    let third : 120 + 8 * k ≡ 100 + (4 + 8 * suc (suc k)) = omega arith in
     ap₂ bit_xor
-    (ap₂ bit_xor (summed-before s (8 * k) 8 (omega arith) (omega arith)) (e ∙ ap (eight_at t) middle))
-    (summed-after s (8 * k + 120) 8 (omega arith) (omega arith) ∙ ap (eight_at t) last)
+    (ap₂ bit_xor (summed-before s (8 * k) 8 (omega arith) (omega arith)) (e ∙ ap (eight_at t) second))
+    (summed-after s (120 + 8 * k) 8 (omega arith) (omega arith) ∙ ap (eight_at t) third)
 
 -- the eights in the middle that have no C bits
-pub middle_before : (s : List ℕ) (at : ℕ) → length s ≡ 160 → at + 8 ≤ 84
-    → bit_and (eight_at s at) 0xFFFF_FFFF_FFFF_FFFF ≡ eight_at (summed_from 0 s) at
-middle_before s at h l = whole-eight s at ∙ summed-before s at 8 (omega arith) l
+pub middle_before : (s : List ℕ) (at : ℕ) → length s ≡ 160 → at + 8 ≤ 84 → eight_at s at ≡ eight_at (summed_from 0 s) at
+middle_before s at h l = summed-before s at 8 (omega arith) l
 
-pub middle_after : (s : List ℕ) → length s ≡ 160 → bit_and (eight_at s 92) 0xFFFF_FFFF_FFFF_FFFF ≡ eight_at (summed_from 0 s) 92
-middle_after s h = whole-eight s 92 ∙ summed-after s 92 8 (omega arith) (omega arith)
+pub middle_after : (s : List ℕ) → length s ≡ 160 → eight_at s 92 ≡ eight_at (summed_from 0 s) 92
+middle_after s h = summed-after s 92 8 (omega arith) (omega arith)

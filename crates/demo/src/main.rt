@@ -4,10 +4,10 @@
 // the microphone while mute was set.
 #![tactic(auto)]
 
-use bas::Word;
-use control::{Answer, Call};
-use modes::{Mode, Owner};
+use control::{Call, Went};
+use modes::{AUDIO_OFF, Mode, Owner};
 use reader::Reader;
+use refusals::Refusal;
 use sender::Sender;
 use std::alloc::Global;
 use std::{fmt, io};
@@ -28,8 +28,6 @@ const RELEASED: [u8; 2] = [0x80, 0x80];
 // shows.
 const MICROPHONE: u8 = 0;
 
-const AUDIO_OFF: u8 = 0x1F;
-
 // How far the lesson is: the state that the next call finds, and the blocks that are recorded.
 #[derive(Drop)]
 struct Lesson {
@@ -48,20 +46,20 @@ struct Heard {
 
 // The word that a line says, as it is printed.
 #[derive(Clone, Copy)]
-struct Said(Word);
+struct Said(Option<u8>);
 
 impl fmt::Display for Said {
     fn fmt<W: fmt::Write>(&self, f: &mut fmt::Formatter<W>) -> fmt::Result {
         match self.0 {
-            Word::Code(code) => write!(f, "{code:02X}"),
-            Word::Unreadable => write!(f, "--"),
+            Some(code) => write!(f, "{code:02X}"),
+            None => write!(f, "--"),
         }
     }
 }
 
 // How many octets of voice a block has under a mode: 20 for each bit that the audio in force holds.
 fn voice_octets(mode: Mode) -> usize {
-    usize::from(modes::bits_per_frame(mode, Owner::Voice) / 4)
+    usize::from(mode.bits_per_frame(Owner::Voice) / 4)
 }
 
 // How many bits of the first octets of a stream are zero.
@@ -94,17 +92,17 @@ fn tell(
     block: usize,
     found: Sender,
     call: Call,
-    answer: Answer,
+    answer: Result<Went, Refusal>,
     line: &[u8],
 ) -> io::Result<()> {
     let code = call.code;
     let mute = if call.mute { "set" } else { "clear" };
     let became = match answer {
-        Answer::Sent if found.due != 0 => "sent as item",
-        Answer::Sent => "sent as command",
-        Answer::Held => "held",
-        Answer::Refused(why) => {
-            let number = refusals::number_of(why);
+        Ok(Went::Sent) if found.due != 0 => "sent as item",
+        Ok(Went::Sent) => "sent as command",
+        Ok(Went::Held) => "held",
+        Err(why) => {
+            let number = u8::from(why);
             return println!(rt;
                 "    -  {mute:<7}{code:02X}       refused {number}        --           --"
             );
@@ -118,7 +116,7 @@ fn tell(
 impl Lesson {
     fn begun(alloc: Global) -> Lesson {
         Lesson {
-            state: sender::fresh(),
+            state: Sender::fresh(),
             recording: Vec::new(alloc),
         }
     }
@@ -141,10 +139,9 @@ impl Lesson {
             e: false,
             t: false,
         };
-        let outcome = sending::send(found, call, &voice, &lsd, &mut line);
-        tell(rt, self.blocks(), found, call, outcome.answer, &line)?;
-        self.state = outcome.state;
-        if !matches!(outcome.answer, Answer::Refused(_)) {
+        let answer = sending::send(&mut self.state, call, &voice, &lsd, &mut line);
+        tell(rt, self.blocks(), found, call, answer, &line)?;
+        if answer.is_ok() {
             self.recording.extend_from_slice(&line)?;
         }
         Ok(())
@@ -175,15 +172,14 @@ impl Heard {
         let mut voice = [0u8; buffers::VOICE];
         let mut lsd = [0u8; buffers::LSD];
         let octets = voice_octets(self.reader.mode);
-        let outcome = reading::read(self.reader, line, &mut voice, &mut lsd);
+        let answer = reading::read(&mut self.reader, line, &mut voice, &mut lsd);
         let is_off = matches!(
-            outcome.answer,
-            reading::Answer::Block(Report {
+            answer,
+            Ok(Report {
                 reading: Reading::Mended(AUDIO_OFF),
                 ..
             })
         );
-        self.reader = outcome.state;
         self.bits = self.bits.wrapping_add(zeros(&voice, octets));
         if is_off && self.off.is_none() {
             self.off = Some(block);
@@ -232,7 +228,7 @@ fn lesson_told(rt: &(impl Print + AllocGlobal)) -> io::Result<()> {
     tell_listing(rt, &lesson.recording)?;
     println!(rt)?;
     // the far end reads the blocks before the press first
-    let before = listened(&lesson.recording, reader::fresh(), 0, from);
+    let before = listened(&lesson.recording, Reader::fresh(), 0, from);
     let heard = listened(&lesson.recording, before.reader, from, to);
     tell_seen(rt, to.wrapping_sub(from), heard)
 }

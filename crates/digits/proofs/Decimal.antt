@@ -8,8 +8,8 @@ use native.Mathlib.Nat.{div-eq_of_lt, div-lt_iff_lt-mul, div-div-eq-div-mul, le-
 use native.Mathlib.Omega.{arith}
 use lib.Dec.{leb, lit<}
 use lib.ListN.{length, get_or, length-append}
-use Rattle.digits.specs.Digits.{digit_of, digit_at, digitsFrom, decimal_of}
-use Rattle.digits.proofs.DigitLaws.{digits_from}
+use Rattle.digits.specs.Digits.{digit_of, digit_at, digits_from, decimal_of}
+use Rattle.digits.proofs.DigitLaws.{digits_below}
 
 shown : (d : ℕ) → d < 10 → digit_of d ≡ 48 + d
 unfolding digit_of
@@ -29,12 +29,12 @@ read_by : (shows : Bool) (p n : ℕ) (rest : List ℕ) → leb p n ≡ shows
 read_by true p n rest e = ap (λ (v : ℕ). read_after v rest) (read-digit (n / p))
 read_by false p n rest e = rw (div-eq_of_lt (leb-false p n e))
 
-reads-from : (k n : ℕ) → read_after (n / 10 ^ suc k) (digitsFrom k n) ≡ n
-unfolding digitsFrom digit_at
+reads-from : (k n : ℕ) → read_after (n / 10 ^ suc k) (digits_from k n) ≡ n
+unfolding digits_from digit_at
 reads-from zero n = read-digit n
 reads-from (suc k) n =
     let p : ℕ = 10 ^ suc k in
-    rw (pow-suc 10 (suc k), ← (div-div-eq-div-mul n p 10)) (read_by (leb p n) p n (digitsFrom k n) refl ∙ reads-from k n)
+    rw (pow-suc 10 (suc k), ← (div-div-eq-div-mul n p 10)) (read_by (leb p n) p n (digits_from k n) refl ∙ reads-from k n)
 
 pub decimal-reads : (n : ℕ) → n < 10 ^ 20 → read_after 0 (decimal_of n) ≡ n
 unfolding decimal_of
@@ -49,12 +49,12 @@ first_by true p n rest e pos h below is =
     absurd (omega (arith, some, ten, sym (shown (n / p % 10) (omega arith)) ∙ is))
 first_by false p n rest e pos h below is = below (leb-false p n e) is
 
-first-from : (k n : ℕ) → n < 10 ^ suc k → get_or (digitsFrom k n) 0 0 ≡ 48 → n ≡ 0
-unfolding digitsFrom digit_at
+first-from : (k n : ℕ) → n < 10 ^ suc k → get_or (digits_from k n) 0 0 ≡ 48 → n ≡ 0
+unfolding digits_from digit_at
 first-from zero n h is = omega (arith, h, sym (shown (n % 10) (omega arith)) ∙ is)
 first-from (suc k) n h is =
     let p : ℕ = 10 ^ suc k in
-    first_by (leb p n) p n (digitsFrom k n) refl (one-le-pow (suc k) 10 (lit< tt)) (rw (mul_comm 10 p) (rw (pow-suc 10 (suc k)) at h)) (first-from k n) is
+    first_by (leb p n) p n (digits_from k n) refl (one-le-pow (suc k) 10 (lit< tt)) (rw (mul_comm 10 p) (rw (pow-suc 10 (suc k)) at h)) (first-from k n) is
 
 pub decimal_first : (n : ℕ) → n < 10 ^ 20 → get_or (decimal_of n) 0 0 ≡ 48 → n ≡ 0
 unfolding decimal_of
@@ -69,13 +69,13 @@ digit-few power n = go (leb power n)
     go true = omega arith
     go false = omega arith
 
-digits_few : (k n : ℕ) → length (digitsFrom k n) ≤ suc k
-unfolding digitsFrom
+digits_few : (k n : ℕ) → length (digits_from k n) ≤ suc k
+unfolding digits_from
 digits_few zero n = omega arith
 digits_few (suc k) n = rw length-append (omega (arith, digit-few (10 ^ suc k) n, digits_few k n))
 
-digits_short : (m j n : ℕ) → n < 10 ^ suc j → length (digitsFrom (m + j) n) ≤ suc j
-digits_short m j n h = rw (digits_from m j n h) (digits_few j n)
+digits_short : (m j n : ℕ) → n < 10 ^ suc j → length (digits_from (m + j) n) ≤ suc j
+digits_short m j n h = rw (digits_below m j n h) (digits_few j n)
 
 pub decimal_three : (n : ℕ) → n < 1000 → length (decimal_of n) ≤ 3
 unfolding decimal_of

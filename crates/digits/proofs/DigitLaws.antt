@@ -6,14 +6,14 @@ use Prim.Native.Nat.{ℕ, zero, suc, ◌+◌, ◌-◌, ◌/◌, ◌%◌, ◌^◌
 use native.Mathlib.Nat.{pow-suc, mul-div_cancel, suc-sub-suc, sub-zero, zero-add, suc-add, pow-le-pow_right}
 use native.Mathlib.Omega.{arith}
 use lib.Dec.{lit<}
-use Rattle.digits.specs.Digits.{digit_of, digit_at, digitsFrom}
+use Rattle.digits.specs.Digits.{digit_of, digit_at, digits_from}
 
-pub digits_last : (n : ℕ) → digitsFrom 0 n ≡ digit_of (n % 10) ∷ []
-unfolding digitsFrom
+pub digits_last : (n : ℕ) → digits_from 0 n ≡ digit_of (n % 10) ∷ []
+unfolding digits_from
 digits_last n = refl
 
-pub digits_more : (k n : ℕ) → 0 < k → digitsFrom k n ≡ digit_at (10 ^ k) n ++ digitsFrom (k - 1) n
-unfolding digitsFrom
+pub digits_more : (k n : ℕ) → 0 < k → digits_from k n ≡ digit_at (10 ^ k) n ++ digits_from (k - 1) n
+unfolding digits_from
 digits_more zero n h = absurd (omega arith)
 digits_more (suc k) n h = rw (suc-sub-suc k 0, sub-zero k)
 
@@ -26,9 +26,9 @@ none_above : (power n : ℕ) → n < power → digit_at power n ≡ []
 unfolding digit_at
 none_above power n h = rw (lt-leb power n h)
 
-pub digits_from : (m j n : ℕ) → n < 10 ^ suc j → digitsFrom (m + j) n ≡ digitsFrom j n
-unfolding digitsFrom
-digits_from zero j n h = rw (zero-add j)
-digits_from (suc m) j n h =
+pub digits_below : (m j n : ℕ) → n < 10 ^ suc j → digits_from (m + j) n ≡ digits_from j n
+unfolding digits_from
+digits_below zero j n h = rw (zero-add j)
+digits_below (suc m) j n h =
     let below : 10 ^ suc j ≤ 10 ^ suc (m + j) = pow-le-pow_right (lit< tt) (omega arith) in
-    rw (suc-add m j, none_above (10 ^ suc (m + j)) n (omega (arith, h, below))) (digits_from m j n h)
+    rw (suc-add m j, none_above (10 ^ suc (m + j)) n (omega (arith, h, below))) (digits_below m j n h)

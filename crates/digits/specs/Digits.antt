@@ -14,10 +14,10 @@ unfoldable pub digit_at : ℕ → ℕ → List ℕ
 digit_at power n = cond (leb power n) (digit_of (n / power % 10) ∷ []) []
 
 -- the decimal digits from that of 10 ^ k on; the last one always stands
-unfoldable pub digitsFrom : ℕ → ℕ → List ℕ
-digitsFrom zero n = digit_of (n % 10) ∷ []
-digitsFrom (suc k) n = digit_at (10 ^ suc k) n ++ digitsFrom k n
+unfoldable pub digits_from : ℕ → ℕ → List ℕ
+digits_from zero n = digit_of (n % 10) ∷ []
+digits_from (suc k) n = digit_at (10 ^ suc k) n ++ digits_from k n
 
 -- a number in decimal: every usize is below 10 ^ 20
 unfoldable pub decimal_of : ℕ → List ℕ
-decimal_of n = digitsFrom 19 n
+decimal_of n = digits_from 19 n

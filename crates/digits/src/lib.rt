@@ -1,9 +1,11 @@
-// Numbers as text, in hex and in decimal, written into a lent buffer as `text` writes.
+// Numbers as text, in hex and in decimal, written on a page of `text`.
 #![tactic(auto)]
 
 ghost use Rattle.std.specs.Prelude.{◌≡◌, ◌<◌, ◌^◌};
-ghost use Rattle.text.specs.Over.{Written};
-ghost use Rattle.digits.specs.Digits.{digit_of, hex_of, digit_at, digitsFrom, decimal_of};
+ghost use Rattle.text.specs.Pages.{Wrote};
+ghost use Rattle.digits.specs.Digits.{digit_of, hex_of, digit_at, digits_from, decimal_of};
+
+use text::Page;
 
 // The character of a hex digit, and so of a decimal one.
 fn digit(d: u8) -> u8
@@ -17,46 +19,45 @@ fn digit(d: u8) -> u8
 }
 
 // An octet as two hex digits.
-pub fn put_hex(text: &mut [u8], at: usize, x: u8) -> usize
-    ensures { Written at (hex_of x) text.old result text.new }
+pub fn put_hex(page: &mut Page, x: u8)
+    ensures { Wrote page.old (hex_of x) page.new }
 {
-    let place = text::put(text, at, digit(x / 16));
-    text::put(text, place, digit(x % 16))
+    page.put(digit(x / 16));
+    page.put(digit(x % 16));
 }
 
-// The digit of a power of ten in a number, where the power is not larger than the number.
-fn put_digit_at(text: &mut [u8], at: usize, power: usize, n: usize) -> usize
+// The digit of a power of ten in a number, where the power is not larger than the number, and else nothing.
+fn put_digit_at(page: &mut Page, power: usize, n: usize)
     requires { 0 < power }
-    ensures { Written at (digit_at power n) text.old result text.new }
+    ensures { Wrote page.old (digit_at power n) page.new }
 {
     if power <= n {
-        return text::put(text, at, digit((n / power % 10) as u8));
+        page.put(digit((n / power % 10) as u8));
+        return;
     }
-    text::place_in(text.len(), at)
+    page.put_all(b"");
 }
 
 // The digits of a number from that of 10 ^ first on.
-fn put_digits(text: &mut [u8], at: usize, power: usize, first: usize, n: usize) -> usize
+fn put_digits(page: &mut Page, power: usize, first: usize, n: usize)
     requires { power ≡ 10 ^ first }
-    ensures { Written at (digitsFrom first n) text.old result text.new }
+    ensures { Wrote page.old (digits_from first n) page.new }
 {
-    let mut place = text::place_in(text.len(), at);
     let mut here = power;
-    let mut k = first;
-    while 0 < k {
-        place = put_digit_at(text, place, here, n);
+    for i in 0..first {
+        put_digit_at(page, here, n);
         here /= 10;
-        k -= 1;
     }
-    text::put(text, place, digit((n % 10) as u8))
+    page.put(digit((n % 10) as u8));
 }
 
 // A number in decimal, without leading zeros. Most are small, and the powers above them need no look.
-pub fn put_decimal(text: &mut [u8], at: usize, n: usize) -> usize
-    ensures { Written at (decimal_of n) text.old result text.new }
+pub fn put_decimal(page: &mut Page, n: usize)
+    ensures { Wrote page.old (decimal_of n) page.new }
 {
     if n < 100_000 {
-        return put_digits(text, at, 10_000, 4, n);
+        put_digits(page, 10_000, 4, n);
+        return;
     }
-    put_digits(text, at, 10_000_000_000_000_000_000, 19, n)
+    put_digits(page, 10_000_000_000_000_000_000, 19, n);
 }

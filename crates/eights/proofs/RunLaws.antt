@@ -1,18 +1,12 @@
--- Octets written one after the other over others, and numbers put into a list by a rule: one more of a run.
+-- Octets written one after the other over others: one number more.
 use mathlib.Core.Path.{◌≡◌, refl, ap, sym, ◌∙◌}
 use mathlib.Core.List.{List, ◌++◌}
-use mathlib.Core.Logic.{⊎_elim}
-use Prim.Native.Nat.{ℕ, zero, suc, ◌+◌, ◌*◌, ◌≤◌, ◌<◌}
-use native.Mathlib.Nat.{eq-or-lt_of_le}
+use Prim.Native.Nat.{ℕ, zero, suc, ◌+◌, ◌*◌, ◌<◌}
 use native.Mathlib.Numerals.{add-one}
 use native.Mathlib.Omega.{arith}
-use lib.ListN.{length, get_or, take, drop, set, length-append}
-use lib.Seq.{get_or-set_same, get_or-set_other, take_at, take-add, drop_at, drop-drop, paste, paste-suc}
+use lib.ListN.{length, take, drop, length-append}
+use lib.Seq.{take_at, take-add, drop_at, drop-drop, paste}
 use Rattle.eights.specs.Eight.{octets_in, all_octets}
-
-pub one_over : (d : List ℕ) (at : ℕ) (s : List ℕ) (k x : ℕ) → at + k < length d → k < length s → x ≡ get_or s k 0
-    → set (paste d at s k) (at + k) x ≡ paste d at s (k + 1)
-one_over d at s k x hd hs e = rw (e, add-one) (paste-suc d at s k 0 hd hs)
 
 -- the octets of one number more, over what stood there
 length_all : (f : ℕ → ℕ) (n : ℕ) → length (all_octets f n) ≡ 8 * n
@@ -38,13 +32,3 @@ all_are f fs zero h = refl
 all_are f fs (suc n) h =
     let next : 8 * n + 8 ≡ 8 * suc n = omega arith in
     rw (all_are f fs n (λ k l. h k (omega arith)), h n (omega arith)) (sym (take-add (8 * n) 8 fs) ∙ ap (λ (m : ℕ). take m fs) next)
-
--- numbers put into a list by a rule, from one place on: one more
-pub one_laid : (l : List ℕ) (from k x : ℕ) (rule : ℕ → ℕ) → k < length l → x ≡ rule k
-    → ((j : ℕ) → from ≤ j → j < k → get_or l j 0 ≡ rule j) → (j : ℕ) → from ≤ j → j < k + 1 → get_or (set l k x) j 0 ≡ rule j
-one_laid l from k x rule hk e laid j hf hj =
-    let le : j ≤ k = omega arith in
-    ⊎_elim
-    (λ same. ap (λ (i : ℕ). get_or (set l k x) i 0) same ∙ get_or-set_same l k x 0 hk ∙ e ∙ ap rule (sym same))
-    (λ less. get_or-set_other l k j x 0 (λ same. omega arith) ∙ laid j hf less)
-    (eq-or-lt_of_le le)

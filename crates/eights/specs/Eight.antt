@@ -1,6 +1,6 @@
 -- Eight octets together, as one number: their fields, and how a number is spread over them. No public contract above this crate speaks of it;
 -- proofs/SpreadLaws shows that the three steps of the code give the fields.
-use Rattle.std.specs.Prelude.{Bool, true, cond, ◌&&◌, List, [], ◌∷◌, ◌++◌, ℕ, zero, suc, ◌+◌, ◌-◌, ◌*◌, ◌/◌, ◌%◌, ◌^◌, leb, get_or, drop}
+use Rattle.std.specs.Prelude.{◌≡◌, Bool, true, cond, ◌&&◌, List, [], ◌∷◌, ◌++◌, ℕ, zero, suc, ◌+◌, ◌-◌, ◌*◌, ◌/◌, ◌%◌, ◌^◌, ◌<◌, ◌≤◌, leb, get_or, drop}
 use Rattle.std.specs.Int.Bits.{bit_and}
 use Rattle.bits.specs.Bits.{number, digit, nexts}
 
@@ -48,3 +48,8 @@ all_octets f (suc n) = all_octets f n ++ octets_in (f n)
 -- what a mask covers stays, and the rest moves up by `up` bits
 unfoldable pub parted_by : ℕ → ℕ → ℕ → ℕ
 parted_by x mask up = (x - bit_and x mask) * 2 ^ up + bit_and x mask
+
+-- eights `from` to `to` of a frame's ten are those of a rule, and those before are as they were
+abbrev pub Laid : List ℕ → List ℕ → ℕ → ℕ → (ℕ → ℕ) → Type 0
+Laid was is from to rule =
+    ((k : ℕ) → k < from → get_or is k 0 ≡ get_or was k 0) × ((k : ℕ) → from ≤ k → k < to → get_or is k 0 ≡ rule k)

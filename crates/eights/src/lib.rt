@@ -3,7 +3,12 @@
 
 ghost use Rattle.std.specs.Prelude.{◌≡◌, ℕ, ◌+◌, ◌-◌, ◌*◌, ◌^◌, ◌<◌, ◌≤◌, length, get_or, drop};
 ghost use Rattle.bits.specs.Bits.{nexts, bits_of, number};
-ghost use Rattle.eights.specs.Eight.{parted_by, eights, ended_by, field_of, spread_by};
+ghost use Rattle.eights.specs.Eight.{parted_by, eights, ended_by, field_of, spread_by, Laid};
+
+mod fields;
+
+pub use fields::Fields;
+use std::ops::Range;
 
 // n octets of a buffer from octet i on, as one number: eight are read at once, and those past the n are let go. At the buffer's end there may
 // be fewer.
@@ -45,62 +50,54 @@ pub fn alike(octet: usize) -> usize
     octet * 0x0101_0101_0101_0101
 }
 
-// Eights `from` to `to` of a frame's ten are spread: of the n octets of each, eight fields of n bits, `up` bits up in their octets, and below
-// them the bits of `below` in each. The eights before are as they were. The octets are all loaded before, so that several eights are spread at
-// once.
-fn spread_eights(lanes: &mut [usize], from: usize, to: usize, n: usize, up: usize, below: usize)
-    requires lanes_len { (length lanes.old ≡ 10) × (from ≤ to) × (to ≤ 10) × (n + up ≤ 8) × (below < 2 ^ up) }
-    requires by_index { (k : ℕ) → from ≤ k → k < to → get_or lanes.old k 0 < 2 ^ (8 * n) }
-    ensures { ((k : ℕ) → k < from → get_or lanes.new k 0 ≡ get_or lanes.old k 0) × ((k : ℕ) → from ≤ k → k < to → get_or lanes.new k 0 ≡ spread_by n up below (get_or lanes.old k 0)) }
+// A run of a frame's ten eights is set, each by a rule of its place and of what stood there. The eights before are as they were.
+// A loop by index: of a slice lent out of it by `iter_mut` a proof knows its length alone.
+pub fn set_eights<F: Fn(usize, usize) -> usize>(lanes: &mut [usize; 10], run: Range<usize>, rule: F)
+    requires run_in { (run.start ≤ run.end) × (run.end ≤ 10) }
+    requires callable { (k : ℕ) → run.start ≤ k → k < run.end → F.pre rule k (get_or lanes.old k 0) }
+    ensures before { (k : ℕ) → k < run.start → get_or lanes.new k 0 ≡ get_or lanes.old k 0 }
+    ensures within { (k : ℕ) → run.start ≤ k → k < run.end → F.post rule k (get_or lanes.old k 0) (get_or lanes.new k 0) }
 {
-    let same = alike(below);
-    for k in from..to {
-        lanes[k] = (spread(lanes[k], n) << up) + same;
+    for k in run.start..run.end {
+        lanes[k] = rule(k, lanes[k]);
     }
 }
 
-// The same, where n is one to eight. Each width has an arm, so that its masks and shifts are compiled as constants.
-pub fn spread_by_width(
-    lanes: &mut [usize],
-    from: usize,
-    to: usize,
-    n: usize,
-    up: usize,
-    below: usize,
-)
-    requires lanes_len { (length lanes.old ≡ 10) × (from ≤ to) × (to ≤ 10) × (0 < n) × (n + up ≤ 8) × (below < 2 ^ up) }
-    requires by_index { (k : ℕ) → from ≤ k → k < to → get_or lanes.old k 0 < 2 ^ (8 * n) }
-    ensures { ((k : ℕ) → k < from → get_or lanes.new k 0 ≡ get_or lanes.old k 0) × ((k : ℕ) → from ≤ k → k < to → get_or lanes.new k 0 ≡ spread_by n up below (get_or lanes.old k 0)) }
+// A run of a frame's ten eights is spread: of the N octets of each, eight fields of N bits. The octets are all loaded before, so that several
+// eights are spread at once.
+fn spread_eights<const N: usize>(lanes: &mut [usize; 10], run: Range<usize>, fields: Fields)
+    requires run_in { (run.start ≤ run.end) × (run.end ≤ 10) }
+    requires width { fields.bits ≡ N }
+    requires by_index { (k : ℕ) → run.start ≤ k → k < run.end → get_or lanes.old k 0 < 2 ^ (8 * N) }
+    ensures { Laid lanes.old lanes.new run.start run.end (λ k. spread_by N fields.up fields.below (get_or lanes.old k 0)) }
 {
-    if n == 6 {
-        spread_eights(lanes, from, to, 6, up, below);
-        return;
+    set_eights(
+        lanes,
+        run,
+        |_, x|
+            requires { (N + fields.up ≤ 8) × (fields.below < 2 ^ fields.up) × (x < 2 ^ (8 * N)) }
+            ensures { result ≡ spread_by N fields.up fields.below x }
+        { (spread(x, N) << fields.up) + alike(fields.below) },
+    );
+}
+
+// The same by the fields' own width, one to eight. Each has an arm, so that its masks and shifts are compiled as constants.
+pub fn spread_by_width(lanes: &mut [usize; 10], run: Range<usize>, fields: Fields)
+    requires run_in { (run.start ≤ run.end) × (run.end ≤ 10) }
+    requires some { 0 < fields.bits }
+    requires by_index { (k : ℕ) → run.start ≤ k → k < run.end → get_or lanes.old k 0 < 2 ^ (8 * fields.bits) }
+    ensures { Laid lanes.old lanes.new run.start run.end (λ k. spread_by fields.bits fields.up fields.below (get_or lanes.old k 0)) }
+{
+    match fields.bits {
+        1 => spread_eights::<1>(lanes, run, fields),
+        2 => spread_eights::<2>(lanes, run, fields),
+        3 => spread_eights::<3>(lanes, run, fields),
+        4 => spread_eights::<4>(lanes, run, fields),
+        5 => spread_eights::<5>(lanes, run, fields),
+        6 => spread_eights::<6>(lanes, run, fields),
+        7 => spread_eights::<7>(lanes, run, fields),
+        _ => spread_eights::<8>(lanes, run, fields),
     }
-    if n == 1 {
-        spread_eights(lanes, from, to, 1, up, below);
-        return;
-    }
-    if n == 2 {
-        spread_eights(lanes, from, to, 2, up, below);
-        return;
-    }
-    if n == 3 {
-        spread_eights(lanes, from, to, 3, up, below);
-        return;
-    }
-    if n == 4 {
-        spread_eights(lanes, from, to, 4, up, below);
-        return;
-    }
-    if n == 5 {
-        spread_eights(lanes, from, to, 5, up, below);
-        return;
-    }
-    if n == 7 {
-        spread_eights(lanes, from, to, 7, up, below);
-        return;
-    }
-    spread_eights(lanes, from, to, 8, up, below);
 }
 
 // Eight octets that end in ones, with the eight bits of an octet in the place of those.

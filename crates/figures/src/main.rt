@@ -5,7 +5,6 @@
 
 ghost use Rattle.std.specs.Prelude.{◌≤◌};
 
-use bas::Word;
 use modes::{Mode, Owner};
 use numbers::OctetNumber;
 use std::io;
@@ -52,9 +51,9 @@ struct Tally {
 impl Tally {
     fn count(&mut self, code: u8, word: u16) {
         let kind = match bas::read_word(word) {
-            Word::Code(read) if read == code => &mut self.sent,
-            Word::Code(_) => &mut self.other,
-            Word::Unreadable => &mut self.unreadable,
+            Some(read) if read == code => &mut self.sent,
+            Some(_) => &mut self.other,
+            None => &mut self.unreadable,
         };
         *kind = kind.wrapping_add(1);
     }
@@ -106,8 +105,8 @@ fn each_three(rt: &impl Print) -> io::Result<()> {
 
 // Whether an audio value and a data value overlap.
 fn overlap(rt: &impl Print, audio: u8, lsd: u8) -> io::Result<()> {
-    let mode = modes::with_lsd(modes::with_audio(modes::off(), audio), lsd);
-    let judged = if modes::overlap(mode) {
+    let mode = Mode { audio, lsd };
+    let judged = if mode.overlaps() {
         "overlap"
     } else {
         "accepted"
@@ -124,7 +123,7 @@ fn overlaps(rt: &impl Print) -> io::Result<()> {
 
 // Data [v]: bits a frame, and bits a second at 100 frames.
 fn rate(rt: &impl Print, v: u8) -> io::Result<()> {
-    let bits = modes::bits_per_frame(modes::with_lsd(modes::off(), v), Owner::Lsd);
+    let bits = Mode::off().with_lsd(v).bits_per_frame(Owner::Lsd);
     let each_second = u32::from(bits) * 100;
     println!(rt; "data [{v}] {bits} {each_second}")
 }
@@ -159,7 +158,7 @@ fn letter(owner: Owner) -> char {
 fn print_bit(rt: &impl Print, mode: Mode, bit: u8) -> io::Result<()> {
     print!(rt; "bit {bit} ")?;
     for octet in 1..=80 {
-        rt.print(letter(modes::owner_of(mode, OctetNumber(octet), bit)))?;
+        rt.print(letter(mode.owner_of(OctetNumber(octet), bit)))?;
     }
     println!(rt)
 }
@@ -186,7 +185,7 @@ fn figures(rt: &impl Print) -> io::Result<()> {
     overlaps(rt)?;
     rates(rt)?;
     line_places(rt)?;
-    picture(rt, modes::with_lsd(modes::with_audio(modes::off(), 20), 6))
+    picture(rt, Mode { audio: 20, lsd: 6 })
 }
 
 // What cannot be written is not told: all that is written is compared with the file `stdout`.

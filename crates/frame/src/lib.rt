@@ -46,8 +46,8 @@ fn service_of(header: Header) -> Service
 {
     let rows = service::service_rows(header.a, header.e, header.t, header.remainder);
     let block = header.block;
-    let i = numbers::even_frame(block).0 as usize;
-    let j = numbers::odd_frame(block).0 as usize;
+    let i = block.even_frame().0 as usize;
+    let j = block.odd_frame().0 as usize;
     let word = bas::line_order(bas::word_of(header.code));
     let even = rows[i];
     let odd = rows[j];
@@ -66,8 +66,10 @@ fn fill_block(line: &mut [u8], p: Layout, service: Service, mute: bool, voice: &
     let w = p.width as usize;
     let c = p.columns as usize;
     let d = 80 * c + (p.last as usize + 1 - p.first as usize);
-    halves::write_frame(&mut line[..80], p, service.even, mute, voice, 0, lsd, 0);
-    halves::write_frame(&mut line[80..], p, service.odd, mute, voice, 80 * w, lsd, d);
+    let (even, rest) = line.split_first_chunk_mut().unwrap();
+    let odd = rest.as_mut_array().unwrap();
+    halves::write_frame(even, p, service.even, mute, voice, 0, lsd, 0);
+    halves::write_frame(odd, p, service.odd, mute, voice, 80 * w, lsd, d);
 }
 
 // Writes a block into a line of 160 octets, from 140 octets of voice and 156 of data. Where a length is wrong nothing is written,

@@ -8,9 +8,10 @@ use native.Mathlib.Nat.{add-mul, mul-add, mul-one, mul-le-mul}
 use native.Mathlib.Omega.{arith}
 use borrow.Author.Tests.{leb-true, leb-false}
 use lib.Dec.{leb}
-use lib.ListN.{length, drop}
-use lib.Seq.{take_all, take_at, drop_at}
-use Rattle.bits.specs.Bits.{low_bits, number, nexts}
+use lib.ListN.{length, take, drop, length-drop}
+use lib.Seq.{take_all, take_at, drop_at, drop-drop}
+use Rattle.bits.specs.Bits.{bits_of, low_bits, number, nexts}
+use Rattle.bits.proofs.RunLaws.{drop-bits_of}
 use Rattle.bits.proofs.BitLaws.{length-low_bits, low_bits-append, number_fits, number-low_bits}
 use Rattle.bits.proofs.NextLaws.{nexts-take}
 use Rattle.halves.specs.Sources.{by_owner}
@@ -31,6 +32,13 @@ by_runs f g a b before own after k l = go (leb a k) (leb b k) refl refl
     go false y ea eb = before k (leb-false a k ea)
     go true false ea eb = own k (leb-true a k ea) (leb-false b k eb)
     go true true ea eb = after k (leb-true b k eb) l
+
+-- a buffer lent on from octet i: its bits from its octet m on
+pub octets_on : (xs : List ℕ) (i m : ℕ) → drop (8 * m) (bits_of (take (length xs - i) (drop i xs))) ≡ drop (8 * (i + m)) (bits_of xs)
+octets_on xs i m =
+    let whole : length (drop i xs) ≤ length xs - i = rw length-drop (omega arith) in
+    let e : 8 * i + 8 * m ≡ 8 * (i + m) = omega arith in
+    rw (take_all (length xs - i) (drop i xs) whole, ← drop-bits_of i xs, drop-drop (8 * m) (8 * i) (bits_of xs), e)
 
 -- the columns of eights `from` to k
 pub columns_to : (c from k : ℕ) → from ≤ k → from * c + (k - from) * c ≡ k * c

@@ -1,15 +1,14 @@
 -- A frame octet by octet, and a block as its two halves.
 use mathlib.Core.Path.{◌≡◌, refl, ap, sym, ◌∙◌, fun_ext}
 use mathlib.Core.Bool.{Bool, true}
-use mathlib.Core.List.{List, [], ◌∷◌, ◌++◌, append-nil}
-use Prim.Native.Nat.{ℕ, zero, suc, ◌+◌, ◌-◌, ◌*◌, ◌≤◌, ◌<◌}
+use mathlib.Core.List.{List, [], ◌∷◌, ◌++◌}
+use Prim.Native.Nat.{ℕ, zero, suc, ◌+◌, ◌*◌, ◌≤◌, ◌<◌}
 use mathlib.Core.Logic.{⊎_elim}
 use native.Mathlib.Nat.{add-zero, eq-or-lt_of_le, le_of_suc-le-suc}
 use native.Mathlib.Numerals.{add-one}
 use native.Mathlib.Omega.{arith}
-use borrow.Rule.Slice.PartMut.{put_mid}
-use lib.ListN.{length, get_or, get_or-append, drop, set, length-set, length-append, drop_of_length-le}
-use lib.Seq.{get_or-set_same, get_or-set_other, drop-nil, drop_at, take_at, get_or-append-add}
+use lib.ListN.{length, get_or, get_or-append, drop, set, length-set}
+use lib.Seq.{get_or-set_same, get_or-set_other, drop-nil, drop_at, get_or-append-add}
 use Rattle.buffers.specs.Lengths.{line_octets}
 use Rattle.bits.specs.Bits.{number, octets}
 use Rattle.bits.proofs.PackLaws.{length-octets, octets-append, octets_one}
@@ -37,13 +36,6 @@ done_more p s n h =
     ∙ ap (octets (n + 1)) (fill-append (rows_by p n) next s)
     ∙ octets-append n 1 (fill (rows_by p n) s) (fill next (rest (rows_by p n) s)) (length-fill (rows_by p n) s ∙ length-rows p n h)
     ∙ ap (λ (l : List ℕ). done p s n ++ l) (octets_one (fill next (rest (rows_by p n) s)) (length-fill next (rest (rows_by p n) s) ∙ length-row p (n + 1) h))
-
--- the second half of a slice, written and come home
-pub second-half : (es rs os : List ℕ) → length es ≡ 80 → length rs ≡ 80 → put_mid 80 (length (es ++ rs) - 80) (es ++ rs) os ≡ es ++ os
-second-half es rs os he hr =
-    let k : length (es ++ rs) - 80 ≡ 80 = rw length-append (omega arith) in
-    let l : length rs ≤ 80 = omega arith in
-    rw (k, take_at es rs 80 he, drop_at es rs 80 he, drop_of_length-le rs l, append-nil)
 
 -- a block is two frames, of any streams
 pub two_frames : (p : Layout) (s : Streams) → p.width + p.columns ≤ 7

@@ -4,8 +4,8 @@
 #![tactic(auto)]
 
 use modes::{Mode, Owner};
+use reader::Reader;
 use recording::{Answer, Stepped};
-use search::Found;
 use std::io;
 use track::{Report, Standing};
 
@@ -22,7 +22,7 @@ fn tell_listing(err: &impl Print, recording: &[u8]) {
 
 // Writes the octets of a block's voice that count: 20 for each bit that the audio in force held.
 fn write_voice(out: &impl Print, mode: Mode, voice: &[u8; buffers::VOICE]) -> io::Result<()> {
-    let octets = usize::from(modes::bits_per_frame(mode, Owner::Voice) / 4);
+    let octets = usize::from(mode.bits_per_frame(Owner::Voice) / 4);
     match voice.get(..octets) {
         Some(counted) => out.write_all(counted),
         None => Ok(()),
@@ -34,7 +34,7 @@ fn write_voice(out: &impl Print, mode: Mode, voice: &[u8; buffers::VOICE]) -> io
 fn walked(out: &impl Print, recording: &[u8], start: usize) -> io::Result<()> {
     let mut stepped = Stepped {
         answer: Answer::Place(start),
-        reader: reader::fresh(),
+        reader: Reader::fresh(),
         place: start,
         lost: false,
     };
@@ -66,7 +66,7 @@ fn walked(out: &impl Print, recording: &[u8], start: usize) -> io::Result<()> {
 
 fn heard(out: &impl Print, err: &impl Print, recording: &[u8]) {
     tell_listing(err, recording);
-    if let Found::Place(start) = search::search(recording, 0)
+    if let Ok(start) = search::search(recording, 0)
         && walked(out, recording, start).is_err()
     {
         let _ = err.println("hear: standard output cannot be written");

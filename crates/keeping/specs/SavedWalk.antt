@@ -1,9 +1,8 @@
 -- The saved form of a walk: its octets in order, and a walk back from them (docs/SAVED.md).
-use Rattle.std.specs.Prelude.{cond, List, [], ◌∷◌, ◌++◌, map, ℕ, zero, suc, ◌+◌, ◌-◌, ◌/◌, ◌%◌, length, get_or, take, replicate}
+use Rattle.std.specs.Prelude.{cond, List, [], ◌∷◌, ◌++◌, map, ℕ, zero, suc, ◌+◌, ◌-◌, ◌/◌, ◌%◌, length, get_or, take, replicate, Option, Some, None}
 use Rattle.bits.specs.Bits.{eight_at}
-use Rattle.saving.specs.Saved.{save_answer, saved_over, is_form, reader_forms, reader_octets, reader_in}
+use Rattle.saving.specs.Saved.{Load, loaded_over, save_answer, saved_over, is_form, reader_forms, reader_octets, reader_in}
 use Rattle.keeping.specs.declared.WalkState.{WalkState}
-use Rattle.keeping.specs.declared.WalkLoad.{WalkLoad}
 
 -- a number in k octets, the lowest first
 unfoldable pub low_first : ℕ → ℕ → List ℕ
@@ -55,5 +54,13 @@ walk_in xs =
       reserved = replicate 3 0;
     }
 
+-- what is no saved form is no walk
+abbrev pub walk_of : List ℕ → Option WalkState
+walk_of xs = cond (is_form walk_forms (length xs)) (Some (walk_in xs)) None
+
+-- what loading leaves: the walk as it was where there is no form
+abbrev pub WalkLoad : Type 0
+WalkLoad = Load WalkState
+
 abbrev pub walk_loaded : WalkState → List ℕ → WalkLoad
-walk_loaded w xs = cond (is_form walk_forms (length xs)) (record { state = walk_in xs; answer = 1 }) (record { state = w; answer = 0 })
+walk_loaded w xs = loaded_over w (walk_of xs)

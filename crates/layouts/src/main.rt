@@ -107,11 +107,11 @@ fn figure(rt: &impl Print, title: &str, mode: Mode, label: Label, octets: &[u8])
 }
 
 fn voice_mode(audio: u8) -> Mode {
-    modes::with_audio(modes::off(), audio)
+    Mode::off().with_audio(audio)
 }
 
 fn data_mode(lsd: u8) -> Mode {
-    modes::with_lsd(modes::off(), lsd)
+    Mode::off().with_lsd(lsd)
 }
 
 fn data_layouts(rt: &impl Print) -> io::Result<()> {
@@ -203,8 +203,8 @@ fn comes_back(mode: Mode, mute: bool) -> bool {
     pattern(&mut lsd, 91);
     frame::write_block(&mut line, mode, header(), mute, &voice, &lsd);
     sorter::hand_out(&line, mode, &mut voice_back, &mut lsd_back);
-    let v = usize::from(modes::bits_per_frame(mode, Owner::Voice));
-    let d = usize::from(modes::bits_per_frame(mode, Owner::Lsd));
+    let v = usize::from(mode.bits_per_frame(Owner::Voice));
+    let d = usize::from(mode.bits_per_frame(Owner::Lsd));
     all_back(&voice, &voice_back, v * 2, mute) && all_back(&lsd, &lsd_back, d * 2, false)
 }
 
@@ -229,8 +229,8 @@ impl Tally {
 // An audio value beside each data value, where the two are a mode.
 fn each_data(t: &mut Tally, audio: u8, mute: bool) {
     for lsd in 0..32 {
-        let mode = modes::with_lsd(voice_mode(audio), lsd);
-        if modes::in_range(mode) {
+        let mode = Mode { audio, lsd };
+        if mode.is_in_range() {
             t.count(mode, mute);
         }
     }

@@ -5,7 +5,7 @@ use Prim.Native.Nat.{ℕ}
 use lib.Dec.{eqb}
 use borrow.Author.Tests.{eqb-true, eq-eqb, not-true}
 use Rattle.bits.proofs.BoolLaws.{and_left, and_right}
-use Rattle.table.specs.Table.{audio_table, lsd_table, beside, audio_places, lsd_places, listed_audio, listed_lsd}
+use Rattle.table.specs.Table.{audio_table, lsd_table, beside, audio_listed, lsd_listed, audio_places, lsd_places, listed_audio, listed_lsd}
 use Rattle.modes.specs.Owners.{holds, held_by, some, clash, overlaps}
 use Rattle.modes.specs.Modes.{audio_off, lsd_off, off, with_audio, with_lsd, same_mode, given_way, cleared, in_range}
 use Rattle.modes.specs.declared.Mode.{Mode}
@@ -36,11 +36,11 @@ no_bits_apart m v none = overlaps_is (with_audio m v) ∙ rw ((audio_shape v).0,
 
 -- 'Refusal numbers', of (000)[0] and (000)[31]: neither overlaps anything
 pub neutral-apart : (m : Mode) → overlaps (with_audio m 0) ≡ false
-unfolding audio_places audio_table beside
+unfolding audio_places audio_listed audio_table beside
 neutral-apart m = no_bits_apart m 0 refl
 
 pub audio-off-apart : (m : Mode) → overlaps (with_audio m audio_off) ≡ false
-unfolding audio_places audio_table beside
+unfolding audio_places audio_listed audio_table beside
 audio-off-apart m = no_bits_apart m audio_off refl
 
 -- ---- what clearing room for a stream leaves: nothing changes where nothing overlaps
@@ -86,5 +86,5 @@ ranged_by m n a d r =
 
 -- off is in range, which antt computes
 pub off-ranged : Ranged off
-unfolding audio_places audio_table lsd_places lsd_table beside overlaps clash some holds held_by
+unfolding audio_places audio_listed audio_table lsd_places lsd_listed lsd_table beside overlaps clash some holds held_by
 off-ranged = record { spoken = refl; named = refl; given = refl; apart = refl }

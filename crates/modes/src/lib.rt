@@ -3,21 +3,26 @@
 
 ghost use Rattle.std.specs.Prelude.{◌≡◌, ◌&&◌, ◌||◌, leb};
 ghost use Rattle.modes.specs.Owners.{holds, held_by, owner_of, overlaps, bits_per_frame};
-ghost use Rattle.modes.specs.Modes.{off, with_audio, with_lsd, same_mode, turned_off, given_way, in_range};
+ghost use Rattle.modes.specs.Modes.{off, with_audio, with_lsd, turned_off, given_way, in_range};
 
 use numbers::OctetNumber;
 use table::Places;
 
+// The audio value and the data value that say that the stream is off.
+pub const AUDIO_OFF: u8 = 31;
+
+pub const LSD_OFF: u8 = 0;
+
 // What is in force: an audio value of (000) and a data value of (011).
 #[repr(C)]
-#[derive(Clone, Copy, PartialEq, Eq)]
+#[derive(Clone, Copy, Debug, PartialEq, Eq)]
 pub struct Mode {
     pub audio: u8,
     pub lsd: u8,
 }
 
 // Whose a place is. Lsd is the data stream.
-#[derive(Clone, Copy)]
+#[derive(Clone, Copy, Debug, PartialEq, Eq)]
 pub enum Owner {
     Service,
     Voice,
@@ -25,86 +30,14 @@ pub enum Owner {
     Nobody,
 }
 
-// Everything off: audio [31] and data [0].
-pub fn off() -> Mode
-    ensures { result ≡ off }
-{
-    Mode { audio: 31, lsd: 0 }
-}
-
-// A mode with another audio value, and with another data value.
-pub fn with_audio(mode: Mode, audio: u8) -> Mode
-    ensures { result ≡ with_audio mode audio }
-{
-    Mode {
-        audio: audio,
-        lsd: mode.lsd,
-    }
-}
-
-pub fn with_lsd(mode: Mode, lsd: u8) -> Mode
-    ensures { result ≡ with_lsd mode lsd }
-{
-    Mode {
-        audio: mode.audio,
-        lsd: lsd,
-    }
-}
-
-// Whether two modes are one.
-pub fn same(a: Mode, b: Mode) -> bool
-    ensures { result ≡ same_mode a b }
-{
-    (a.audio == b.audio) & (a.lsd == b.lsd)
-}
-
-// What an owner holds under a mode.
-pub fn held_by(mode: Mode, owner: Owner) -> Places
-    ensures { result ≡ held_by mode owner }
-{
-    match owner {
-        Owner::Service => Places {
-            listed: true,
-            from: 8,
-            to: 7,
-            first: OctetNumber(1),
-            last: OctetNumber(16),
-        },
-        Owner::Voice => table::audio_places(mode.audio),
-        Owner::Lsd => table::lsd_places(mode.lsd),
-        Owner::Nobody => Places {
-            listed: true,
-            from: 8,
-            to: 7,
-            first: OctetNumber(17),
-            last: OctetNumber(16),
-        },
-    }
-}
-
-fn is_held(p: Places, octet: OctetNumber, bit: u8) -> bool
-    ensures { result ≡ holds p octet bit }
+#[tactic(auto, unfolding(crate::specs::Owners::holds))]
+fn holds(places: Places, octet: OctetNumber, bit: u8) -> bool
+    ensures { result ≡ holds places octet bit }
 {
     if bit == 8 {
-        return (p.first.0 <= octet.0) & (octet.0 <= p.last.0);
+        return (places.first.0 <= octet.0) & (octet.0 <= places.last.0);
     }
-    (p.from <= bit) & (bit <= p.to)
-}
-
-// The owner of a place.
-pub fn owner_of(mode: Mode, octet: OctetNumber, bit: u8) -> Owner
-    ensures { result ≡ owner_of mode octet bit }
-{
-    if is_held(held_by(mode, Owner::Service), octet, bit) {
-        return Owner::Service;
-    }
-    if is_held(held_by(mode, Owner::Voice), octet, bit) {
-        return Owner::Voice;
-    }
-    if is_held(held_by(mode, Owner::Lsd), octet, bit) {
-        return Owner::Lsd;
-    }
-    Owner::Nobody
+    (places.from <= bit) & (bit <= places.to)
 }
 
 // Whether two ranges have a number in common.
@@ -123,54 +56,113 @@ fn touch(v: Places, d: Places) -> bool
     meet(v.from, v.to, d.from, d.to) | meet(v.first.0, v.last.0, d.first.0, d.last.0)
 }
 
-// Whether the streams overlap.
-pub fn overlap(mode: Mode) -> bool
-    ensures { result ≡ overlaps mode }
-{
-    let v = table::audio_places(mode.audio);
-    let d = table::lsd_places(mode.lsd);
-    touch(v, d)
-}
-
-// The mode with `stream` turned off.
-fn turn_off(stream: Owner, mode: Mode) -> Mode
-    ensures { result ≡ turned_off stream mode }
-{
-    match stream {
-        Owner::Service => mode,
-        Owner::Voice => with_audio(mode, 31),
-        Owner::Lsd => with_lsd(mode, 0),
-        Owner::Nobody => mode,
+impl Mode {
+    // Everything off: audio [31] and data [0].
+    pub fn off() -> Mode
+        ensures { result ≡ off }
+    {
+        Mode {
+            audio: AUDIO_OFF,
+            lsd: LSD_OFF,
+        }
     }
-}
 
-// The mode with `other` turned off where it clashes with `stream`.
-pub fn give_way(stream: Owner, other: Owner, mode: Mode) -> Mode
-    ensures { result ≡ given_way stream other mode }
-{
-    let kept = held_by(mode, stream);
-    let held = held_by(mode, other);
-    if touch(kept, held) {
-        return turn_off(other, mode);
+    // The mode with another audio value, and with another data value.
+    pub fn with_audio(self, audio: u8) -> Mode
+        ensures { result ≡ with_audio self audio }
+    {
+        Mode { audio, ..self }
     }
-    mode
-}
 
-// How many bits of a frame an owner holds under a mode.
-pub fn bits_per_frame(mode: Mode, owner: Owner) -> u16
-    ensures { result ≡ bits_per_frame (held_by mode owner) }
-{
-    let p = held_by(mode, owner);
-    let columns = p.to + 1 - p.from;
-    let channel = p.last.0 + 1 - p.first.0;
-    (columns as u16) * 80 + (channel as u16)
-}
+    pub fn with_lsd(self, lsd: u8) -> Mode
+        ensures { result ≡ with_lsd self lsd }
+    {
+        Mode { lsd, ..self }
+    }
 
-// Whether a mode holds listed codes, audio never as [0], that do not overlap.
-pub fn in_range(mode: Mode) -> bool
-    ensures { result ≡ in_range mode }
-{
-    let v = table::audio_places(mode.audio);
-    let d = table::lsd_places(mode.lsd);
-    v.listed & (mode.audio != 0) & d.listed & !touch(v, d)
+    // What an owner holds under the mode.
+    #[tactic(auto, unfolding(crate::specs::Owners::held_by))]
+    pub fn held_by(self, owner: Owner) -> Places
+        ensures { result ≡ held_by self owner }
+    {
+        match owner {
+            Owner::Service => Places::sc_octets(1, 16),
+            Owner::Voice => table::audio_places(self.audio),
+            Owner::Lsd => table::lsd_places(self.lsd),
+            Owner::Nobody => Places::octet_bits_from(8),
+        }
+    }
+
+    // The owner of a place.
+    #[tactic(auto, unfolding(crate::specs::Owners::owner_of))]
+    pub fn owner_of(self, octet: OctetNumber, bit: u8) -> Owner
+        ensures { result ≡ owner_of self octet bit }
+    {
+        if holds(self.held_by(Owner::Service), octet, bit) {
+            return Owner::Service;
+        }
+        if holds(self.held_by(Owner::Voice), octet, bit) {
+            return Owner::Voice;
+        }
+        if holds(self.held_by(Owner::Lsd), octet, bit) {
+            return Owner::Lsd;
+        }
+        Owner::Nobody
+    }
+
+    // Whether the streams overlap.
+    #[tactic(auto, using(crate::proofs::OwnerLaws::overlaps_is), unfolding(crate::specs::Owners::held_by))]
+    pub fn overlaps(self) -> bool
+        ensures { result ≡ overlaps self }
+    {
+        touch(self.held_by(Owner::Voice), self.held_by(Owner::Lsd))
+    }
+
+    // The mode with `stream` turned off.
+    fn turned_off(self, stream: Owner) -> Mode
+        ensures { result ≡ turned_off stream self }
+    {
+        match stream {
+            Owner::Voice => self.with_audio(AUDIO_OFF),
+            Owner::Lsd => self.with_lsd(LSD_OFF),
+            Owner::Service | Owner::Nobody => self,
+        }
+    }
+
+    // The mode with `other` turned off where it clashes with `stream`.
+    #[tactic(auto, using(crate::proofs::OwnerLaws::clash_is, crate::proofs::OwnerLaws::held_fit), unfolding(crate::specs::Modes::given_way))]
+    pub fn given_way(self, stream: Owner, other: Owner) -> Mode
+        ensures { result ≡ given_way stream other self }
+    {
+        if touch(self.held_by(stream), self.held_by(other)) {
+            return self.turned_off(other);
+        }
+        self
+    }
+
+    // How many bits of a frame an owner holds under the mode.
+    #[tactic(auto, using(crate::proofs::OwnerLaws::held_fit, crate::proofs::OwnerLaws::bits_per_frame_is))]
+    pub fn bits_per_frame(self, owner: Owner) -> u16
+        ensures { result ≡ bits_per_frame (held_by self owner) }
+    {
+        let held = self.held_by(owner);
+        let columns = held.to + 1 - held.from;
+        let channel = held.last.0 + 1 - held.first.0;
+        u16::from(columns) * 80 + u16::from(channel)
+    }
+
+    // Whether the mode holds listed codes, audio never as [0], that do not overlap. Each table is read once, since it is laid out anew where it
+    // is read.
+    #[tactic(auto, unfolding(crate::specs::Modes::in_range))]
+    pub fn is_in_range(self) -> bool
+        ensures { result ≡ in_range self }
+    {
+        let (Some(voice), Some(lsd)) = (
+            table::audio_listed(self.audio),
+            table::lsd_listed(self.lsd),
+        ) else {
+            return false;
+        };
+        (self.audio != 0) & !touch(voice, lsd)
+    }
 }

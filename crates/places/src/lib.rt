@@ -16,30 +16,22 @@ pub struct Layout {
 }
 
 // The layout of a mode. Where a mode is forged and its streams overlap, voice has its places and data what is left.
+#[tactic(auto, using(modes::proofs::OwnerLaws::held_fit), unfolding(crate::specs::Layout::layout_of))]
 pub fn layout_of(mode: Mode) -> Layout
     ensures { result ≡ layout_of mode }
 {
-    let voice = modes::held_by(mode, Owner::Voice);
-    let lsd = modes::held_by(mode, Owner::Lsd);
-    let left = 7 - voice.to;
-    let wanted = 8 - lsd.from;
-    if wanted <= left {
-        return Layout {
-            width: voice.to,
-            columns: wanted,
-            first: lsd.first.0,
-            last: lsd.last.0,
-        };
-    }
+    let voice = mode.held_by(Owner::Voice);
+    let lsd = mode.held_by(Owner::Lsd);
     Layout {
         width: voice.to,
-        columns: left,
+        columns: (8 - lsd.from).min(7 - voice.to),
         first: lsd.first.0,
         last: lsd.last.0,
     }
 }
 
 // Whether data's SC octets are whole eights of a frame.
+#[tactic(auto, unfolding(crate::specs::Layout::in_eights))]
 pub fn in_eights(p: Layout) -> bool
     ensures { result ≡ in_eights p }
 {

@@ -1,73 +1,62 @@
 // Presets: a sender's chosen audio and data as sixteen bits (document 01, 'Preset').
 #![tactic(auto)]
 
-ghost use Rattle.std.specs.Prelude.{◌≡◌};
-ghost use Rattle.presets.specs.Presets.{is_preset, preset_read, preset_written};
+ghost use Rattle.std.specs.Prelude.{◌≡◌, ◌/◌, ◌%◌};
+ghost use Rattle.presets.specs.Presets.{audio_in, lsd_in, is_preset, preset_read, preset_written};
 
-use refusals::{Refusal, Ruling};
+use modes::Mode;
+use refusals::Refusal;
 use sender::Sender;
 
-#[derive(Clone, Copy)]
-pub enum PresetAnswer {
-    Read,
-    Unread(Refusal),
-}
+// The code of data [0], "data off"; those of the other data values follow it.
+pub const OFFER_LSD_OFF: u8 = 96;
 
 // A state to start from, and the data code to offer.
-#[derive(Clone, Copy)]
+#[derive(Clone, Copy, Debug, PartialEq, Eq)]
 pub struct PresetRead {
-    pub answer: PresetAnswer,
     pub state: Sender,
     pub offer: u8,
 }
 
-#[derive(Clone, Copy)]
-pub enum PresetWritten {
-    Bits(u16),
-    Unwritten(Refusal),
+fn audio_in(bits: u16) -> u8
+    ensures { result ≡ audio_in bits }
+{
+    (bits / 2048) as u8
 }
 
+fn lsd_in(bits: u16) -> u8
+    ensures { result ≡ lsd_in bits }
+{
+    (bits / 64 % 32) as u8
+}
+
+#[tactic(auto, unfolding(crate::specs::Presets::is_preset))]
 fn is_preset(bits: u16) -> bool
     ensures { result ≡ is_preset bits }
 {
-    let audio = (bits / 2048) as u8;
-    let lsd = (bits / 64 % 32) as u8;
-    let mode = modes::with_lsd(modes::with_audio(modes::off(), audio), lsd);
-    modes::in_range(mode) & (bits % 64 == 0)
+    let mode = Mode::off()
+        .with_audio(audio_in(bits))
+        .with_lsd(lsd_in(bits));
+    mode.is_in_range() & (bits % 64 == 0)
 }
 
 // A preset's state to start from, and the data code to offer.
-pub fn read_preset(bits: u16) -> PresetRead
+#[tactic(auto, unfolding(crate::specs::Presets::preset_read))]
+pub fn read_preset(bits: u16) -> Result<PresetRead, Refusal>
     ensures { result ≡ preset_read bits }
 {
-    let audio = (bits / 2048) as u8;
-    let lsd = (bits / 64 % 32) as u8;
-    let state = sender::fresh_with(audio);
-    let none = sender::fresh_with(31);
-    let ruling = refusals::judge(Ruling::Accept, Refusal::NotAPreset, !is_preset(bits));
-    match ruling {
-        Ruling::Refuse(why) => PresetRead {
-            answer: PresetAnswer::Unread(why),
-            state: none,
-            offer: 96,
-        },
-        Ruling::Accept => PresetRead {
-            answer: PresetAnswer::Read,
-            state: state,
-            offer: 96 + lsd,
-        },
-    }
+    refusals::first_given(&[Refusal::NotAPreset.row(!is_preset(bits))])?;
+    Ok(PresetRead {
+        state: Sender::fresh_with(audio_in(bits)),
+        offer: OFFER_LSD_OFF + lsd_in(bits),
+    })
 }
 
 // A state's chosen audio and data in force, as a preset.
-pub fn write_preset(s: Sender) -> PresetWritten
+#[tactic(auto, unfolding(crate::specs::Presets::preset_written))]
+pub fn write_preset(s: Sender) -> Result<u16, Refusal>
     ensures { result ≡ preset_written s }
 {
-    let chosen = s.chosen;
-    let lsd = s.mode.lsd;
-    let ruling = refusals::judge(Ruling::Accept, Refusal::BadState, !sender::in_range(s));
-    match ruling {
-        Ruling::Refuse(why) => PresetWritten::Unwritten(why),
-        Ruling::Accept => PresetWritten::Bits((chosen as u16) * 2048 + (lsd as u16) * 64),
-    }
+    refusals::first_given(&[Refusal::BadState.row(!s.is_in_range())])?;
+    Ok(u16::from(s.chosen) * 2048 + u16::from(s.mode.lsd) * 64)
 }

@@ -1,15 +1,16 @@
-// Presets as a driver reads and writes them, by value and in the numbers that cross to C (document 01, 'Preset').
+// Presets as a driver reads and writes them, over a lent state and in the numbers that cross to C (document 01, 'Preset').
 #![tactic(auto)]
 
 ghost use Rattle.std.specs.Prelude.{◌≡◌};
-ghost use Rattle.presets.specs.Presets.{preset_number};
 ghost use Rattle.presetting.specs.Presetting.{preset_answer_of, preset_bits_of, preset_taken, preset_given};
 
+use presets::{OFFER_LSD_OFF, PresetRead};
+use refusals::Refusal;
 use sender::Sender;
 
 // The data code to offer and number 0, or "data off" and the refusal's number.
 #[repr(C)]
-#[derive(Clone, Copy)]
+#[derive(Clone, Copy, Debug, PartialEq, Eq)]
 pub struct PresetAnswer {
     pub offer: u8,
     pub number: u8,
@@ -17,84 +18,64 @@ pub struct PresetAnswer {
 
 // A preset and number 0, or 0 and a refusal's number.
 #[repr(C)]
-#[derive(Clone, Copy)]
+#[derive(Clone, Copy, Debug, PartialEq, Eq)]
 pub struct PresetBits {
     pub bits: u16,
     pub number: u8,
     pub reserved: u8,
 }
 
-#[derive(Clone, Copy)]
-pub struct PresetStepped {
-    pub state: Sender,
-    pub answer: PresetAnswer,
-}
-
-fn preset_number(answer: presets::PresetAnswer) -> u8
-    ensures { result ≡ preset_number answer }
-{
-    match answer {
-        presets::PresetAnswer::Read => 0,
-        presets::PresetAnswer::Unread(why) => refusals::number_of(why),
-    }
-}
-
 // A preset that was read: the data code to offer.
-pub fn preset_answer(read: presets::PresetRead) -> PresetAnswer
-    ensures { result ≡ preset_answer_of read }
-{
-    let answer = read.answer;
-    let number = preset_number(answer);
-    PresetAnswer {
-        offer: read.offer,
-        number: number,
-    }
-}
+impl From<Result<PresetRead, Refusal>> for PresetAnswer {
+    ghost from_gives = { λ read answer. answer ≡ preset_answer_of read };
 
-// A preset that was written.
-pub fn preset_bits(written: presets::PresetWritten) -> PresetBits
-    ensures { result ≡ preset_bits_of written }
-{
-    match written {
-        presets::PresetWritten::Bits(bits) => PresetBits {
-            bits: bits,
-            number: 0,
-            reserved: 0,
-        },
-        presets::PresetWritten::Unwritten(why) => {
-            let number = refusals::number_of(why);
-            PresetBits {
-                bits: 0,
-                number: number,
-                reserved: 0,
-            }
+    fn from(read: Result<PresetRead, Refusal>) -> PresetAnswer {
+        match read {
+            Ok(preset) => PresetAnswer {
+                offer: preset.offer,
+                number: 0,
+            },
+            Err(why) => PresetAnswer {
+                offer: OFFER_LSD_OFF,
+                number: u8::from(why),
+            },
         }
     }
 }
 
-// A preset's state to start from and the data code to offer, or the state that was given and a refusal.
-pub fn preset_step(state: Sender, bits: u16) -> PresetStepped
-    ensures { result ≡ preset_taken state bits }
+// A preset that was written.
+impl From<Result<u16, Refusal>> for PresetBits {
+    ghost from_gives = { λ written answer. answer ≡ preset_bits_of written };
+
+    fn from(written: Result<u16, Refusal>) -> PresetBits {
+        match written {
+            Ok(bits) => PresetBits {
+                bits,
+                number: 0,
+                reserved: 0,
+            },
+            Err(why) => PresetBits {
+                bits: 0,
+                number: u8::from(why),
+                reserved: 0,
+            },
+        }
+    }
+}
+
+// A preset's state to start from and the data code to offer, or the state as it was and a refusal.
+pub fn preset_step(state: &mut Sender, bits: u16) -> PresetAnswer
+    ensures answer { result ≡ (preset_taken state.old bits).answer }
+    ensures state { state.new ≡ (preset_taken state.old bits).state }
 {
     let read = presets::read_preset(bits);
-    let fresh = read.state;
-    let told = preset_answer(read);
-    if told.number == 0 {
-        return PresetStepped {
-            state: fresh,
-            answer: told,
-        };
-    }
-    PresetStepped {
-        state: state,
-        answer: told,
-    }
+    *state = read.map_or(*state, |preset| preset.state);
+    PresetAnswer::from(read)
 }
 
 // A state's chosen audio and data in force, as a preset.
 pub fn preset_of(state: Sender) -> PresetBits
     ensures { result ≡ preset_given state }
 {
-    let written = presets::write_preset(state);
-    preset_bits(written)
+    PresetBits::from(presets::write_preset(state))
 }

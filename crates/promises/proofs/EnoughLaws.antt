@@ -8,9 +8,9 @@ use lib.ListN.{replicate}
 use Rattle.bits.specs.Bits.{odd, low_bits, sc_bit, xors}
 use Rattle.crc.specs.Crc.{block_crc_of}
 use Rattle.bas.specs.Reading.{weight, reading_of}
-use Rattle.bas.specs.declared.Word.TheVariants.{Code}
+use Rattle.std.specs.Prelude.{Option, Some, Ok}
 use Rattle.numbers.specs.Numbers.{following}
-use Rattle.table.specs.Table.{audio_table, lsd_table, beside, audio_places, lsd_places}
+use Rattle.table.specs.Table.{audio_table, lsd_table, beside, audio_places, lsd_places, audio_listed, lsd_listed}
 use Rattle.modes.specs.Owners.{holds, held_by, some, clash, overlaps}
 use Rattle.modes.specs.Modes.{audio_off, mode, in_range}
 use Rattle.slots.specs.Slots.{due_after}
@@ -23,10 +23,9 @@ use Rattle.control.specs.Rules.{rule_of}
 use Rattle.control.specs.Plans.{plan_by}
 use Rattle.control.specs.Refusals.{clashes, ruling_of}
 use Rattle.control.specs.Decisions.{decision_of}
-use Rattle.sending.specs.Step.{block_for, outcome_of}
+use Rattle.sending.specs.Step.{Outcome, block_for, outcome_of}
 use Rattle.sender.specs.declared.Sender.{Sender}
-use Rattle.sending.specs.declared.Outcome.{Outcome}
-use Rattle.control.specs.declared.Answer.TheVariants.{Sent}
+use Rattle.control.specs.declared.Went.TheVariants.{Sent}
 use Rattle.sending.proofs.OutcomeLaws.{stays_in_range}
 use Rattle.buffers.specs.Lengths.{line_octets, zeroed}
 use Rattle.promises.specs.Session.{Turn, turned, after, accepted, entry_of}
@@ -49,14 +48,14 @@ fresh = fresh_with audio_off
 
 -- (100)[0] and (100)[1] are carried and touch no mode
 pub fresh-range : state_in_range fresh ≡ true
-unfolding state_in_range in_range audio_places audio_table lsd_places lsd_table beside overlaps clash some holds held_by
+unfolding state_in_range in_range audio_places audio_listed audio_table lsd_places lsd_listed lsd_table beside overlaps clash some holds held_by
 fresh-range = refl
 
-first_sent : (turned fresh (offer 0x80)).outcome.answer ≡ Sent
+first_sent : (turned fresh (offer 0x80)).outcome.answer ≡ Ok Sent
 unfolding turned outcome_of decision_of ruling_of rule_of plan_by sender_carries carried clashes
 first_sent = rw fresh-range
 
-other_sent : (turned fresh (offer 0x81)).outcome.answer ≡ Sent
+other_sent : (turned fresh (offer 0x81)).outcome.answer ≡ Ok Sent
 unfolding turned outcome_of decision_of ruling_of rule_of plan_by sender_carries carried clashes
 other_sent = rw fresh-range
 
@@ -81,32 +80,32 @@ second_range =
     rw (← second-found)
     (stays_in_range fresh (offer 0x80).call zeroed (replicate line_octets 0) fresh-range)
 
-second-sent : (turned second (offer 0x81)).outcome.answer ≡ Sent
+second-sent : (turned second (offer 0x81)).outcome.answer ≡ Ok Sent
 unfolding second turned outcome_of decision_of ruling_of rule_of plan_by sender_carries carried clashes
 second-sent = rw second_range
 
 -- ---- what an accepted call's block says
-module _ (s : Sender) (x : Turn) (taken : (turned s x).outcome.answer ≡ Sent) where
+module _ (s : Sender) (x : Turn) (taken : (turned s x).outcome.answer ≡ Ok Sent) where
   laid : LaidDown (entry_of s x)
   laid = (rw taken at (octets-laid-down s (x ∷ []))).2
 
-  says : x.call.code < 256 → reading_of (bas_word (turned s x).line) ≡ Code x.call.code
+  says : x.call.code < 256 → reading_of (bas_word (turned s x).line) ≡ Some x.call.code
   says small =
       ap (λ (l : List ℕ). reading_of (bas_word l)) (rw taken at laid) ∙ code-back s.mode _ x.call.mute x.lent small
 
   aligned-line : wrong_bits (turned s x).line ≡ 0
   aligned-line = ap wrong_bits laid ∙ right_alignment s.mode _ x.call.mute x.lent
 
-first_says : reading_of (bas_word (turned fresh (offer 0x80)).line) ≡ Code 0x80
+first_says : reading_of (bas_word (turned fresh (offer 0x80)).line) ≡ Some 0x80
 first_says = says fresh (offer 0x80) first_sent (omega arith)
 
-other_says : reading_of (bas_word (turned fresh (offer 0x81)).line) ≡ Code 0x81
+other_says : reading_of (bas_word (turned fresh (offer 0x81)).line) ≡ Some 0x81
 other_says = says fresh (offer 0x81) other_sent (omega arith)
 
-second-says : reading_of (bas_word (turned second (offer 0x81)).line) ≡ Code 0x81
+second-says : reading_of (bas_word (turned second (offer 0x81)).line) ≡ Some 0x81
 second-says = says second (offer 0x81) second-sent (omega arith)
 
-two_codes : Code 0x81 ≡ Code 0x80 → ⊥
+two_codes : ◌≡◌ {A = Option ℕ} (Some 0x81) (Some 0x80) → ⊥
 two_codes e = let same : ◌≡◌ {A = ℕ} 0x81 0x80 = cc in omega arith
 
 -- an empty line has five wrong alignment bits
@@ -124,7 +123,7 @@ module _ (p : Program) (m : Meets p) where
   unfolding turned
   same_outcome s x = (m s x).outcome
 
-  takes : (s : Sender) (x : Turn) → (turned s x).outcome.answer ≡ Sent → Accepts p s x
+  takes : (s : Sender) (x : Turn) → (turned s x).outcome.answer ≡ Ok Sent → Accepts p s x
   takes s x e = ap (λ (o : Outcome). accepted o.answer) (same_outcome s x) ∙ ap accepted e
 
   not_refusing : RefusesEverything p → ⊥

@@ -6,20 +6,19 @@ use mathlib.Core.Logic.{◌⊎◌, inl, inr}
 use Prim.Native.Nat.{ℕ}
 use native.Mathlib.Omega.{arith}
 use lib.Dec.{eqb}
-use borrow.Author.Tests.{ne_eqb}
+use Rattle.std.specs.Prelude.{Result, Ok, Err}
+use Rattle.refusals.specs.declared.Refusal.{Refusal}
 use Rattle.reader.specs.declared.Reader.{Reader}
 use Rattle.text.proofs.OverLaws.{written-fits, written-cut}
 use Rattle.refusals.proofs.RowLaws.{number-within, numbered}
 use Rattle.search.specs.Finding as finding
-use Rattle.search.specs.Finding.{search_of}
-use Rattle.search.specs.declared.Found.{Found}
+use Rattle.search.specs.Finding.{Found, search_of}
 use Rattle.control.specs.Refusals as sender-list
 use Rattle.sender.specs.declared.Sender.{Sender}
 use Rattle.control.specs.declared.Rule.{Rule}
-use Rattle.control.specs.declared.Answer as sent
+use Rattle.control.specs.declared.Went.TheVariants.{Sent, Held}
 use Rattle.reading.specs.Refusals as reader-list
 use Rattle.reading.specs.Step as reading
-use Rattle.reading.specs.declared.Answer as read
 use Rattle.reading.proofs.OutcomeLaws.{told, look-read}
 use Rattle.recording.specs.Refusals as walk-list
 use Rattle.recording.specs.Walk.{step_at}
@@ -37,6 +36,8 @@ use Rattle.answers.specs.declared.StepAnswer.{StepAnswer}
 use Rattle.presetting.specs.declared.PresetAnswer.{PresetAnswer}
 use Rattle.presetting.specs.declared.PresetBits.{PresetBits}
 use Rattle.presets.specs.Presets.{preset_read, preset_number}
+use Rattle.presets.specs.declared.PresetRead.{PresetRead}
+use Rattle.presetting.specs.Presetting.{preset_answer_of, preset_state_of}
 use Rattle.calls.specs.Sending.{on}
 use Rattle.calls.specs.Sending as call-sends
 use Rattle.calls.specs.Walking.{mark_after}
@@ -46,7 +47,7 @@ use Rattle.buffers.specs.Lengths.{zeroed}
 use Rattle.promises.specs.Session.{Turn, turned}
 use Rattle.promises.specs.Demand1.{Row, first, Refuses, held, searching_rows}
 use Rattle.promises.specs.EntryPoints.{Looking, WalkLooking, StepOfWalk, LookOfWalk, call_in_c, SendingInC, ReadingInC, SearchingInC, SteppingInC, ReadingPresetInC, WritingPresetInC, Listing}
-use Rattle.promises.proofs.TurnLaws.{Stayed, Went, turn_cases}
+use Rattle.promises.proofs.TurnLaws.{Stayed, Moved, turn_cases}
 use Rattle.promises.proofs.RefusalLaws.{sending_refuses, reading_refuses, searching_refuses, stepping_refuses, reading_preset_refuses, writing_preset_refuses}
 use Rattle.promises.proofs.InStepLaws.{answered}
 use Rattle.promises.proofs.SilenceLaws.{turn_told}
@@ -84,14 +85,14 @@ look_of_walk w s r e =
     (λ k. (ap (λ (o : Onward). o.walk) e ∙ moved w _ _ k.1 k.2, ap (λ (o : Onward). o.reader) e ∙ k.0))
 
 -- ---- a kind says that a call is refused exactly where its number is not 0
-kind-sent : (a : sent.Answer) → eqb (sender-list.kind_of a) 2 ≡ not (eqb (sender-list.number_in a) 0)
-kind-sent sent.TheVariants.Sent = refl
-kind-sent sent.TheVariants.Held = refl
-kind-sent (sent.TheVariants.Refused r) = rw (numbered r)
+kind-sent : (a : sender-list.Answer) → eqb (sender-list.kind_of a) 2 ≡ not (eqb (sender-list.number_in a) 0)
+kind-sent (Ok Sent) = refl
+kind-sent (Ok Held) = refl
+kind-sent (Err r) = rw (numbered r)
 
-kind-read : (a : read.Answer) → eqb (reader-list.kind_of a) 1 ≡ not (eqb (reader-list.number_in a) 0)
-kind-read (read.TheVariants.Block report) = refl
-kind-read (read.TheVariants.Refused r) = rw (numbered r)
+kind-read : (a : reader-list.Answer) → eqb (reader-list.kind_of a) 1 ≡ not (eqb (reader-list.number_in a) 0)
+kind-read (Ok report) = refl
+kind-read (Err r) = rw (numbered r)
 
 kind-walked : (a : walked.Answer) → eqb (walk-list.kind_of a) 3 ≡ not (eqb (walk-list.number_in a) 0)
 kind-walked (walked.TheVariants.Block report) = refl
@@ -108,13 +109,13 @@ held_or_sent : (s : Sender) (x : Turn) → sender-list.number_in (turned s x).ou
     → sender-list.kind_of (turned s x).outcome.answer ≡ cond (held s x.call) 1 0
 held_or_sent s x none = go (turn_cases s x)
   where
-    kind : (b : Bool) → sender-list.kind_of (cond b sent.TheVariants.Held sent.TheVariants.Sent) ≡ cond b 1 0
+    kind : (b : Bool) → sender-list.kind_of (Ok (cond b Held Sent)) ≡ cond b 1 0
     kind true = refl
     kind false = refl
 
-    go : Stayed s x ⊎ ((rule : Rule) × Went s x rule) → sender-list.kind_of (turned s x).outcome.answer ≡ cond (held s x.call) 1 0
+    go : Stayed s x ⊎ ((rule : Rule) × Moved s x rule) → sender-list.kind_of (turned s x).outcome.answer ≡ cond (held s x.call) 1 0
     go (inl k) =
-        let numbered = kind-sent (sent.TheVariants.Refused k.why) in
+        let numbered = kind-sent (Err k.why) in
         absurd (false≢true (sym (ap (λ (n : ℕ). not (eqb n 0)) (ap sender-list.number_in (sym k.answer) ∙ none)) ∙ sym numbered))
     go (inr (rule, w)) = ap sender-list.kind_of (answered s x rule w) ∙ kind (held s x.call)
 
@@ -140,15 +141,15 @@ reading_in_C s line b r next out (er, en, eb) =
     }
 
 -- an answer without a number is the place
-place_told : (f : Found) → finding.found_number f ≡ 0 → f ≡ Found.Place (finding.found_place f)
-place_told (Found.Place p) e = refl
-place_told (Found.Refused why) e = absurd (omega (arith, (number-within why).0))
+place_told : (f : Found) → finding.found_number f ≡ 0 → f ≡ Ok (finding.found_place f)
+place_told (Ok p) e = refl
+place_told (Err why) e = absurd (omega (arith, (number-within why).0))
 
 pub searching_in_C : SearchingInC
 searching_in_C recording start r e =
     let number = ap (λ (q : SearchAnswer). q.number) e in (
       refuses_as (searching_refuses recording start _ refl) number (λ k. k),
-      λ z. place_told (search_of recording start) (sym number ∙ z) ∙ ap Found.Place (sym (ap (λ (q : SearchAnswer). q.place) e)),
+      λ z. place_told (search_of recording start) (sym number ∙ z) ∙ ap Ok (sym (ap (λ (q : SearchAnswer). q.place) e)),
     )
 
 -- a walk whose reader, place and mark are as they were
@@ -169,14 +170,23 @@ stepping_in_C w recording b r next out (er, en, eb) =
       told = tells_as r.kind 3 (ap (λ (q : StepAnswer). q.kind) er) number (kind-walked x.answer);
     }
 
+-- a preset's answer has the number of its reading, and one that is refused keeps the state
+preset_numbered : (p : Result PresetRead Refusal) → (preset_answer_of p).number ≡ preset_number p
+preset_numbered (Ok p) = refl
+preset_numbered (Err why) = refl
+
+preset_kept : (p : Result PresetRead Refusal) (s : Sender) → (preset_number p ≡ 0 → ⊥) → preset_state_of p s ≡ s
+preset_kept (Ok p) s h = absurd (h refl)
+preset_kept (Err why) s h = refl
+
 pub reading_preset_in_C : ReadingPresetInC
 reading_preset_in_C s bits r next (er, en) =
     let t = reading_preset_refuses bits _ refl in
-    let number = ap (λ (q : PresetAnswer). q.number) er in
+    let number = ap (λ (q : PresetAnswer). q.number) er ∙ preset_numbered (preset_read bits) in
     record {
       ordered = t.ordered;
       exact = number ∙ t.exact;
-      kept = λ h. en ∙ rw (ne_eqb (preset_number (preset_read bits).answer) 0 (λ z. h (number ∙ z)));
+      kept = λ h. en ∙ preset_kept (preset_read bits) s (λ z. h (number ∙ z));
     }
 
 pub writing_preset_in_C : WritingPresetInC
@@ -193,15 +203,15 @@ module _ (recording : List ℕ) where
   none_listed some = go (search_of recording 0) refl
     where
       go : (f : Found) → search_of recording 0 ≡ f → listing_by (search_of recording 0) recording ≡ number_line "none " why_none
-      go (Found.Place p) e = absurd (some (sym (searching_refuses recording 0 _ refl).exact ∙ ap finding.found_number e))
-      go (Found.Refused why) e =
+      go (Ok p) e = absurd (some (sym (searching_refuses recording 0 _ refl).exact ∙ ap finding.found_number e))
+      go (Err why) e =
           ap (λ (f : Found). listing_by f recording) e
           ∙ ap (number_line "none ") (sym (ap finding.found_number e) ∙ (searching_refuses recording 0 _ refl).exact)
 
-  place_found : why_none ≡ 0 → search_of recording 0 ≡ Found.Place (finding.found_place (search_of recording 0))
+  place_found : why_none ≡ 0 → search_of recording 0 ≡ Ok (finding.found_place (search_of recording 0))
   place_found none = place_told (search_of recording 0) ((searching_refuses recording 0 _ refl).exact ∙ none)
 
-  found-listed : (p : ℕ) → search_of recording 0 ≡ Found.Place p → (rest : List ℕ) × (listing_of recording ≡ number_line "found " p ++ rest)
+  found-listed : (p : ℕ) → search_of recording 0 ≡ Ok p → (rest : List ℕ) × (listing_of recording ≡ number_line "found " p ++ rest)
   unfolding listing_of
   found-listed p e = (_, ap (λ (f : Found). listing_by f recording) e)
 

@@ -6,10 +6,11 @@ use mathlib.Core.Logic.{◌⊎◌, inl, inr}
 use Prim.Native.Nat.{ℕ}
 use native.Mathlib.Omega.{arith}
 use lib.ListN.{get_or, replicate}
+use Rattle.std.specs.Prelude.{Ok}
 use Rattle.crc.specs.Crc.{block_crc_of}
 use Rattle.bits.specs.Bits.{number}
 use Rattle.numbers.specs.Numbers.{following}
-use Rattle.table.specs.Table.{audio_table, lsd_table, beside, audio_places, lsd_places}
+use Rattle.table.specs.Table.{audio_table, lsd_table, beside, audio_places, lsd_places, audio_listed, lsd_listed}
 use Rattle.modes.specs.Owners.{holds, held_by, some, clash, overlaps}
 use Rattle.modes.specs.Modes.{audio_off, mode, in_range}
 use Rattle.codes.specs.Codes.{neutral}
@@ -21,7 +22,7 @@ use Rattle.control.specs.Refusals.{clashes, ruling_of}
 use Rattle.control.specs.Decisions.{decision_of}
 use Rattle.sending.specs.Step.{block_for, outcome_of}
 use Rattle.sender.specs.declared.Sender.{Sender}
-use Rattle.control.specs.declared.Answer.TheVariants.{Sent, Held}
+use Rattle.control.specs.declared.Went.TheVariants.{Sent, Held}
 use Rattle.sending.proofs.OutcomeLaws.{stays_in_range}
 use Rattle.slots.specs.declared.Due.TheVariants.{Plain}
 use Rattle.slots.specs.Slots.{slot_of}
@@ -76,15 +77,15 @@ sounding_example : (sounding (talking 0) ≡ true) × MuteStaysSet (muted 0)
 sounding_example = (refl, (refl, (refl, tt)))
 
 range_example : (due : ℕ) → state_in_range (talking due) ≡ true
-unfolding state_in_range in_range audio_places audio_table lsd_places lsd_table beside overlaps clash some holds held_by
+unfolding state_in_range in_range audio_places audio_listed audio_table lsd_places lsd_listed lsd_table beside overlaps clash some holds held_by
 range_example due = refl
 
-held_example : (turned (talking 0) (turn true 0)).outcome.answer ≡ Held
+held_example : (turned (talking 0) (turn true 0)).outcome.answer ≡ Ok Held
 unfolding turned outcome_of decision_of ruling_of rule_of plan_by
 held_example = rw (range_example 0)
 
 -- where an item is due it goes first, and mute's own "off" in the second call
-item-sent : (turned (talking 1) (turn true 0)).outcome.answer ≡ Sent
+item-sent : (turned (talking 1) (turn true 0)).outcome.answer ≡ Ok Sent
 unfolding turned outcome_of decision_of ruling_of rule_of plan_by
 item-sent = rw (range_example 1)
 
@@ -108,7 +109,7 @@ second_range =
     rw (← second-found)
     (stays_in_range (talking 1) (turn true 0).call zeroed (replicate line_octets 0) (range_example 1))
 
-second_held : (turned second (turn true 0)).outcome.answer ≡ Held
+second_held : (turned second (turn true 0)).outcome.answer ≡ Ok Held
 unfolding second turned outcome_of decision_of ruling_of rule_of plan_by
 second_held = rw second_range
 
@@ -146,7 +147,7 @@ listening =
     }
 
 in_step_example : InStep seventh listening
-unfolding readerInRange in_range audio_places audio_table lsd_places lsd_table beside overlaps clash some holds held_by number
+unfolding readerInRange in_range audio_places audio_listed audio_table lsd_places lsd_listed lsd_table beside overlaps clash some holds held_by number
 in_step_example = record { placed = record { range = refl; knows = refl; place = refl; due = refl; bits = refl }; mode = refl }
 
 agrees_example : Agrees seventh listening
@@ -166,11 +167,11 @@ neutral-turn =
 
 -- neutral can be offered where no item is due, and goes as the word
 seventh-range : state_in_range seventh ≡ true
-unfolding state_in_range in_range audio_places audio_table lsd_places lsd_table beside overlaps clash some holds held_by
+unfolding state_in_range in_range audio_places audio_listed audio_table lsd_places lsd_listed lsd_table beside overlaps clash some holds held_by
 seventh-range = refl
 
-neutral-sent : (turned seventh neutral-turn).outcome.answer ≡ Sent
-unfolding turned outcome_of decision_of ruling_of rule_of plan_by sender_carries carried clashes audio_places audio_table lsd_places lsd_table beside overlaps clash some holds held_by
+neutral-sent : (turned seventh neutral-turn).outcome.answer ≡ Ok Sent
+unfolding turned outcome_of decision_of ruling_of rule_of plan_by sender_carries carried clashes audio_places audio_listed audio_table lsd_places lsd_listed lsd_table beside overlaps clash some holds held_by
 neutral-sent = rw seventh-range
 
 neutral_example : word_sent (record { found = seventh; turn = neutral-turn }) ≡ neutral

@@ -13,10 +13,10 @@ use Rattle.crc.specs.Crc.{block_crc_of}
 use Rattle.bits.proofs.BoolLaws.{and_left, and_right}
 use Rattle.bits.proofs.PackLaws.{length-octets}
 use Rattle.bas.specs.Reading.{reading_of}
-use Rattle.bas.specs.declared.Word.TheVariants.{Code}
+use Rattle.std.specs.Prelude.{Some, Ok}
 use Rattle.bas.proofs.ReadingLaws.{two_wrong, three_wrong}
 use Rattle.numbers.specs.Numbers.{following}
-use Rattle.table.specs.Table.{audio_table, beside, audio_places}
+use Rattle.table.specs.Table.{audio_table, beside, audio_places, audio_listed}
 use Rattle.numbers.specs.declared.BlockNumber.{BlockNumber}
 use Rattle.modes.specs.declared.Mode.{Mode}
 use Rattle.modes.specs.declared.Owner.TheVariants.{Voice, Lsd}
@@ -36,28 +36,24 @@ use Rattle.round.proofs.HeaderLaws.{each8, odd_bit, right_alignment, first_bit_b
 use Rattle.sender.specs.State.{word_due}
 use Rattle.control.specs.Plans.{plan_by}
 use Rattle.control.specs.Rules.{rule_of}
-use Rattle.control.specs.Refusals.{goes_plain, goes_as_item}
+use Rattle.control.specs.Refusals.{Answer, goes_plain, goes_as_item}
 use Rattle.sending.specs.Step.{header_for, block_for}
 use Rattle.sender.specs.declared.Sender.{Sender}
 use Rattle.control.specs.declared.Plan.{Plan}
 use Rattle.control.specs.declared.Rule.{Rule}
-use Rattle.control.specs.declared.Answer.{Answer}
 use Rattle.sender.proofs.StateLaws as sending
 use Rattle.reader.specs.State.{block, known}
 use Rattle.track.specs.Signs.{signs_of}
 use Rattle.track.specs.Parts as parts
 use Rattle.track.specs.Parts.{multiframe_after}
-use Rattle.track.specs.Step.{report_of, next_of, step_of}
-use Rattle.reading.specs.Step.{handed_by, Told}
+use Rattle.track.specs.Step.{Stepped, report_of, next_of, step_of}
+use Rattle.reading.specs.Step.{Outcome, handed_by, Told}
 use Rattle.reader.specs.declared.Reader.{Reader}
 use Rattle.track.specs.declared.Signs.{Signs}
 use Rattle.track.specs.declared.Multiframe.{Multiframe}
-use Rattle.reading.specs.declared.Outcome.{Outcome}
-use Rattle.track.specs.declared.Stepped.{Stepped}
 use Rattle.track.specs.declared.Report.{Report}
 use Rattle.track.specs.declared.Standing.{Standing}
 use Rattle.track.specs.declared.Standing.TheVariants.{Read}
-use Rattle.reading.specs.declared.Answer.TheVariants.{Block}
 use Rattle.reading.proofs.OutcomeLaws.{takes, told_taken}
 use Rattle.slots.proofs.SlotLaws.{due-back}
 use Rattle.track.proofs.RangeLaws.{step_in_range}
@@ -69,7 +65,7 @@ use Rattle.buffers.specs.Lengths.{line_octets, stream_octets}
 use Rattle.buffers.proofs.LengthLaws.{same_each}
 use Rattle.promises.specs.Session.{Turn, after, Entry, log, block_sent, entry_of}
 use Rattle.promises.specs.Demand2.{word_told, word_sent, Answered, LaidDown, commanded, GoesOn, BlockAfterBlock, OctetsLaidDown, KeptAsSent, Placed, InStep, Agrees, reader_after, HandedBack, Back, AllBack, StaysInStep, MendsWords, JoinsAtNeutral}
-use Rattle.promises.proofs.TurnLaws.{Stayed, Went, turn_cases, log-stayed, log_went}
+use Rattle.promises.proofs.TurnLaws.{Stayed, Moved, turn_cases, log-stayed, log_went}
 use Rattle.promises.proofs.RuleLaws.{due_cases, due_by_rule, rule_answer, rule_word, rule_chosen}
 use Rattle.promises.proofs.WordLaws.{force-apart, Sends, word_small, plan-mode, mode-follows, due-after_same}
 
@@ -108,13 +104,13 @@ six-spelled f e = let h : f % 32 ≡ 5 = e in let g : f % 32 * 2 + 1 ≡ 11 = om
 due-now : (s : Sender) → due_now (word_due s) ≡ word_due s
 due-now = due_cases (λ d. due_now d ≡ d) refl refl
 
-reading_same : (d e : Due) (n : ℕ) → due_now d ≡ e → due_now e ≡ e → reading_in d (Code n) ≡ reading_in e (Code n)
+reading_same : (d e : Due) (n : ℕ) → due_now d ≡ e → due_now e ≡ e → reading_in d (Some n) ≡ reading_in e (Some n)
 unfolding reading_in
 reading_same d e n p q = ap (λ (x : Due). code_reading x n) (p ∙ sym q)
 
-after_same : (d e : Due) (n : ℕ) → due_now d ≡ e → due_after d (Code n) ≡ due_after_now e (Code n)
+after_same : (d e : Due) (n : ℕ) → due_now d ≡ e → due_after d (Some n) ≡ due_after_now e (Some n)
 unfolding due_after
-after_same d e n p = ap (λ (x : Due). due_after_now x (Code n)) p
+after_same d e n p = ap (λ (x : Due). due_after_now x (Some n)) p
 
 -- ---- a place that is known goes on to the next block, and loses nothing that is due
 module _ (r : Reader) (b : BlockNumber) (due : Due) (same : r.block ≡ b) (bits : KeptAsSent b.0 r.firsts) where
@@ -144,10 +140,10 @@ module _ (r : Reader) (b : BlockNumber) (due : Due) (same : r.block ≡ b) (bits
 pub record Shows (b : BlockNumber) (code : ℕ) (line : List ℕ) : Type 0 where
   pub wrong : wrong_bits line ≡ 0
   pub first : odd_first line ≡ bit_of b.0
-  pub word : reading_of (bas_word line) ≡ Code code
+  pub word : reading_of (bas_word line) ≡ Some code
 
 abbrev pub shown : BlockNumber → ℕ → List ℕ → Signs
-shown b code line = record { wrong = 0; c = c_bits line; first = bit_of b.0; word = Code code; remainder = block_crc_of line }
+shown b code line = record { wrong = 0; c = c_bits line; first = bit_of b.0; word = Some code; remainder = block_crc_of line }
 
 pub stepped : (b : BlockNumber) (code : ℕ) (line : List ℕ) → Shows b code line
     → (r : Reader) → step_of r (signs_of line) ≡ record { state = next_of r (shown b code line) 0; report = report_of r (shown b code line) }
@@ -158,7 +154,7 @@ stepped b code line h r = ap (step_of r) signs
     signs = rw (h.wrong, h.first, h.word)
 
 -- ---- an accepted call
-module _ (s : Sender) (x : Turn) (rule : Rule) (w : Went s x rule) where
+module _ (s : Sender) (x : Turn) (rule : Rule) (w : Moved s x rule) where
   abbrev pub entry : Entry
   entry = entry_of s x
 
@@ -180,22 +176,22 @@ module _ (s : Sender) (x : Turn) (rule : Rule) (w : Went s x rule) where
   word_is : word_sent entry ≡ plan.word
   word_is =
       ap (λ (a : Answer). word_told a x.call.mute s x.call.code) w.answer
-      ∙ ap (λ (q : Rule). word_told (plan_by q s x.call.code).answer x.call.mute s x.call.code) w.rule_is
+      ∙ ap (λ (q : Rule). word_told (Ok (plan_by q s x.call.code).went) x.call.mute s x.call.code) w.rule_is
       ∙ rule_word s x.call
       ∙ ap (λ (q : Rule). (plan_by q s x.call.code).word) (sym w.rule_is)
 
   pub answered : Answered entry
   answered =
-      w.answer ∙ ap (λ (q : Rule). (plan_by q s x.call.code).answer) w.rule_is ∙ rule_answer s x.call
+      w.answer ∙ ap (λ (q : Rule). Ok (plan_by q s x.call.code).went) w.rule_is ∙ ap Ok (rule_answer s x.call)
 
   pub line_is : block_sent entry ≡ block_of s.mode header x.call.mute x.lent
   unfolding block_for
   line_is = w.line
 
   -- the word due after the call is the one that the slots' rule gives
-  due_on : due_after_now (word_due s) (Code plan.word) ≡ word_due (after s x)
+  due_on : due_after_now (word_due s) (Some plan.word) ≡ word_due (after s x)
   due_on =
-      ap (λ (d : Due). due_after_now d (Code plan.word)) item_is
+      ap (λ (d : Due). due_after_now d (Some plan.word)) item_is
       ∙ due-after_same s x.call.code rule sends
       ∙ ap (λ (q : Sender). cond (not (eqb q.due 0)) AnItem Plain) (sym w.state)
 
@@ -219,7 +215,7 @@ module _ (s : Sender) (x : Turn) (rule : Rule) (w : Went s x rule) where
             ∙ ap (λ (q : Rule). (plan_by q s x.call.code).chosen) w.rule_is ∙ rule_chosen s x.call;
         due =
             sym
-            (ap₂ (λ (d : Due) (n : ℕ). due_after_now d (Code n)) (due-now s) word_is ∙ due_on);
+            (ap₂ (λ (d : Due) (n : ℕ). due_after_now d (Some n)) (due-now s) word_is ∙ due_on);
       }
 
   -- ---- what the block shows a reader
@@ -251,11 +247,11 @@ module _ (s : Sender) (x : Turn) (rule : Rule) (w : Went s x rule) where
     abbrev seen : Signs
     seen = shown s.block plan.word line
 
-    reading_is : parts.word_read r (Code plan.word) ≡ reading_in (word_due s) (Code plan.word)
+    reading_is : parts.word_read r (Some plan.word) ≡ reading_in (word_due s) (Some plan.word)
     reading_is = rw st.knows (reading_same (due_of r.slot) (word_due s) plan.word st.due (due-now s))
 
     -- the word due after the block is the sender's
-    due_is : parts.due_read r (Code plan.word) ≡ word_due (after s x)
+    due_is : parts.due_read r (Some plan.word) ≡ word_due (after s x)
     due_is =
         rw st.knows
         (after_same (due_of r.slot) (word_due s) plan.word st.due ∙ due_on)
@@ -290,22 +286,22 @@ module _ (s : Sender) (x : Turn) (rule : Rule) (w : Went s x rule) where
         }
 
     -- the reader's mode is what the word made of it
-    mode-read : onward-reader.mode ≡ obeyed (reading_in (word_due s) (Code plan.word)) r.mode
+    mode-read : onward-reader.mode ≡ obeyed (reading_in (word_due s) (Some plan.word)) r.mode
     unfolding next_of
     mode-read = ap (λ (q : Reader). q.mode) next ∙ ap (λ (q : Reading). obeyed q r.mode) reading_is
 
     mode_again : r.mode ≡ s.mode → onward-reader.mode ≡ (after s x).mode
     mode_again same =
         mode-read
-        ∙ ap₂ (λ (d : Due) (m : Mode). obeyed (reading_in d (Code plan.word)) m) item_is same
+        ∙ ap₂ (λ (d : Due) (m : Mode). obeyed (reading_in d (Some plan.word)) m) item_is same
         ∙ mode-follows s x.call.code rule sends ∙ sym (ap (λ (q : Sender). q.mode) w.state)
 
     -- neutral makes any two modes the same
     neutral_again : word_due s ≡ Plain → plan.word ≡ neutral → onward-reader.mode ≡ (after s x).mode
-    unfolding obeyed followed offered reading_in command_of reader_carries carried audio_places audio_table beside
+    unfolding obeyed followed offered reading_in command_of reader_carries carried audio_places audio_listed audio_table beside
     neutral_again none is =
         mode-read
-        ∙ ap₂ (λ (d : Due) (n : ℕ). obeyed (reading_in d (Code n)) r.mode) none is
+        ∙ ap₂ (λ (d : Due) (n : ℕ). obeyed (reading_in d (Some n)) r.mode) none is
         ∙ sym (goes_on.mode
         ∙ ap₂ (λ (d : Due) (n : ℕ). commanded d n s.mode) none (word_is ∙ is))
 
@@ -336,9 +332,9 @@ module _ (s : Sender) (x : Turn) (rule : Rule) (w : Went s x rule) where
         let apart = force-apart s sends.kept s.mode.lsd sends.kept.ranges.apart in
         record {
           report = report_of r (shown s.block plan.word (block_sent entry));
-          answer = ap (λ (q : Outcome). q.answer) t.0 ∙ ap Block is;
+          answer = ap (λ (q : Outcome). q.answer) t.0 ∙ ap Ok is;
           read = read;
-          word = reading_is (block_sent entry) sent r st ∙ ap (λ (k : ℕ). reading_in (word_due s) (Code k)) (sym word_is);
+          word = reading_is (block_sent entry) sent r st ∙ ap (λ (k : ℕ). reading_in (word_due s) (Some k)) (sym word_is);
           first = λ z. rw (eq-eqb r.before 0 z);
           good = λ a. rw (ne_eqb r.before 0 a.before, c-sent, eq-eqb s.remainder r.remainder (sym a.remainder));
           streams =
@@ -371,7 +367,7 @@ pub octets-laid-down : OctetsLaidDown
 octets-laid-down s [] = tt
 octets-laid-down s (x ∷ xs) = go (turn_cases s x) (octets-laid-down s xs) (octets-laid-down (after s x) xs)
   where
-    go : Stayed s x ⊎ ((rule : Rule) × Went s x rule) → BlockAfterBlock s (log s xs) → BlockAfterBlock (after s x) (log (after s x) xs)
+    go : Stayed s x ⊎ ((rule : Rule) × Moved s x rule) → BlockAfterBlock s (log s xs) → BlockAfterBlock (after s x) (log (after s x) xs)
         → BlockAfterBlock s (log s (x ∷ xs))
     go (inl k) same next = rw (log-stayed s x xs k) same
     go (inr (rule, w)) same next = rw (log_went s x xs rule w) (refl, answered s x rule w, laid-down s x rule w, goes_on s x rule w, next)
@@ -380,7 +376,7 @@ pub stays_in_step : StaysInStep
 stays_in_step s r [] bits st = tt
 stays_in_step s r (x ∷ xs) bits st = go (turn_cases s x) (stays_in_step s r xs bits.1 st) (λ q u. stays_in_step (after s x) q xs bits.1 u)
   where
-    go : Stayed s x ⊎ ((rule : Rule) × Went s x rule)
+    go : Stayed s x ⊎ ((rule : Rule) × Moved s x rule)
         → AllBack r (log s xs)
         → ((q : Reader) → InStep (after s x) q → AllBack q (log (after s x) xs))
         → AllBack r (log s (x ∷ xs))
@@ -396,7 +392,7 @@ mends_words code wrong small = record { few = two_wrong code wrong small; many =
 pub joins_at_neutral : JoinsAtNeutral
 joins_at_neutral s r x small taken st none is = go (turn_cases s x)
   where
-    go : Stayed s x ⊎ ((rule : Rule) × Went s x rule) → InStep (after s x) (reader_after r (entry_of s x))
+    go : Stayed s x ⊎ ((rule : Rule) × Moved s x rule) → InStep (after s x) (reader_after r (entry_of s x))
     go (inl k) = absurd (false≢true (rw k.answer at taken))
     go (inr (rule, w)) =
         record {

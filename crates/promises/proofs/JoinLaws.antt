@@ -11,7 +11,6 @@ use borrow.Author.Tests.{eqb-true, leb-true, not-true}
 use Rattle.bits.specs.Bits.{number}
 use Rattle.bits.proofs.BoolLaws.{and_left, and_right}
 use Rattle.numbers.specs.Numbers.{following}
-use Rattle.modes.specs.Modes.{mode}
 use Rattle.numbers.specs.declared.BlockNumber.{BlockNumber}
 use Rattle.slots.specs.Slots.{due_now, slot_of, due_of}
 use Rattle.words.specs.Readings.{obeyed}
@@ -23,15 +22,14 @@ use Rattle.sender.proofs.StateLaws.{kept}
 use Rattle.reader.specs.State.{block, unknown, known, state_in_range}
 use Rattle.track.specs.Parts as parts
 use Rattle.track.specs.Parts.{multiframe_after}
-use Rattle.track.specs.Step.{next_of}
+use Rattle.track.specs.Step.{Stepped, next_of}
 use Rattle.reader.specs.declared.Reader.{Reader}
 use Rattle.slots.specs.declared.Slot.{Slot}
-use Rattle.track.specs.declared.Stepped.{Stepped}
 use Rattle.reader.proofs.StateLaws.{fresh_in_range}
 use Rattle.track.proofs.RangeLaws.{step_in_range}
 use Rattle.promises.specs.Session.{Turn, after, Entry, log, block_sent, entry_of}
 use Rattle.promises.specs.Demand2.{KeptAsSent, Placed, reader_after, EightBits, FreshWaits, until_six, sender_on, reader_on, FindsPlace, ComesIntoStep}
-use Rattle.promises.proofs.TurnLaws.{Stayed, Went, turn_cases, log-stayed, log_went}
+use Rattle.promises.proofs.TurnLaws.{Stayed, Moved, turn_cases, log-stayed, log_went}
 use Rattle.promises.proofs.InStepLaws.{each, bit_of, shown, stepped, plan, shows}
 
 pub fresh_waits : FreshWaits
@@ -60,7 +58,7 @@ unfolding following
 found_in_time = each (λ (b : ℕ). found_at (until_six b) b 0b111111 ≡ true) refl refl refl refl refl refl refl refl
 
 -- ---- one block heard while waiting
-module _ (s : Sender) (x : Turn) (rule : Rule) (w : Went s x rule) (small : x.call.code < 256) (r : Reader) (f : ℕ) (k : Seeks r f) where
+module _ (s : Sender) (x : Turn) (rule : Rule) (w : Moved s x rule) (small : x.call.code < 256) (r : Reader) (f : ℕ) (k : Seeks r f) where
   abbrev heard : Entry
   heard = entry_of s x
 
@@ -111,7 +109,7 @@ abbrev Joins : ℕ → Sender → Reader → List Entry → Type 0
 Joins n s r es =
     n ≤ length es → word_due (sender_on n s es) ≡ Plain → Placed (sender_on n s es) (reader_on n r es) × ((reader_on n r es).mode ≡ r.mode)
 
-module _ (s : Sender) (x : Turn) (rule : Rule) (w : Went s x rule) (small : x.call.code < 256) (r : Reader) (f : ℕ) (k : Seeks r f)
+module _ (s : Sender) (x : Turn) (rule : Rule) (w : Moved s x rule) (small : x.call.code < 256) (r : Reader) (f : ℕ) (k : Seeks r f)
     (es : List Entry) where
   abbrev one : Entry
   one = entry_of s x
@@ -151,7 +149,7 @@ joins [] (suc n) s r f bits k e = λ many. absurd (omega arith)
 joins (x ∷ xs) n s r f bits k e =
     go (turn_cases s x) (joins xs n s r f bits.1 k e) (λ m q g kq eq. joins xs m (after s x) q g bits.1 kq eq)
   where
-    go : Stayed s x ⊎ ((rule : Rule) × Went s x rule) → Joins n s r (log s xs)
+    go : Stayed s x ⊎ ((rule : Rule) × Moved s x rule) → Joins n s r (log s xs)
         → ((m : ℕ) (q : Reader) (g : ℕ) → Seeks q g → found_at m (after s x).block.0 g ≡ true → Joins m (after s x) q (log (after s x) xs))
         → Joins n s r (log s (x ∷ xs))
     go (inl stayed) same later = subst (Joins n s r) (sym (log-stayed s x xs stayed)) same

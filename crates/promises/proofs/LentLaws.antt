@@ -1,11 +1,11 @@
 -- A session over the lent state is a session by value, and a block read in C is a block read, in the numbers that cross to C.
 use mathlib.Core.Path.{◌≡◌, refl, sym, ap, ◌∙◌}
 use mathlib.Core.List.{List, [], ◌∷◌, map}
+use Rattle.std.specs.Prelude.{Ok}
 use Rattle.words.specs.Readings.{reading_kind, reading_code}
 use Rattle.sender.specs.declared.Sender.{Sender}
 use Rattle.track.specs.Parts.{standing_number, verdict_number}
 use Rattle.reading.specs.Step.{outcome_of}
-use Rattle.reading.specs.declared.Answer.TheVariants.{Block}
 use Rattle.reading.proofs.OutcomeLaws.{told}
 use Rattle.calls.specs.Sending.{sent}
 use Rattle.answers.specs.Answers.{read_answer_of}
@@ -41,7 +41,7 @@ lent-silence s xs ys ls ms h k alike =
 pub read-back_in_C : ReadBackInC
 read-back_in_C e r back b a next out fit (ea, en, eb) =
     let h = back.hands b (outcome_of r (block_sent e) b) out fit (told r (block_sent e) b _ out refl eb) in
-    let is : a ≡ read_answer_of (Block h.report) = ea ∙ ap read_answer_of h.answer in
+    let is : a ≡ read_answer_of (Ok h.report) = ea ∙ ap read_answer_of h.answer in
     record {
       accepted = (ap (λ (q : ReadAnswer). q.kind) is, ap (λ (q : ReadAnswer). q.number) is);
       read = ap (λ (q : ReadAnswer). q.block.standing) is ∙ ap standing_number h.read;

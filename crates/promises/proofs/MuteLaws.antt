@@ -18,7 +18,7 @@ use Rattle.control.specs.declared.Rule.TheVariants.{AsItem, MuteOff}
 use Rattle.promises.specs.Session.{Turn, Entry, after, log, entry_of}
 use Rattle.promises.specs.Demand3.{MuteStaysSet, MuteGone, By, MuteBound}
 use Rattle.promises.proofs.RuleLaws.{due_cases}
-use Rattle.promises.proofs.TurnLaws.{Stayed, Went, turn_cases, log-stayed, log_went}
+use Rattle.promises.proofs.TurnLaws.{Stayed, Moved, turn_cases, log-stayed, log_went}
 
 -- ---- one of the first n
 by_none : (n : ℕ) (P : Entry → Type 0) → 0 < n → By n P []
@@ -43,7 +43,7 @@ by_later m (suc n) P e es h b = inr (by_more m n P es h b)
 -- ---- the count_down, for any bound: while `Waits` holds, each accepted call with mute set has P or brings `left` down
 module _ (P : Entry → Type 0) (Waits : Sender → Type 0) (left : Sender → ℕ)
     (some : (s : Sender) → Waits s → 0 < left s)
-    (moves : (s : Sender) (x : Turn) (rule : Rule) → Waits s → x.call.mute ≡ true → Went s x rule
+    (moves : (s : Sender) (x : Turn) (rule : Rule) → Waits s → x.call.mute ≡ true → Moved s x rule
     → P (entry_of s x) ⊎ (Waits (after s x) × (left (after s x) < left s)))
   where
     count_down : (xs : List Turn) (s : Sender) → Waits s → MuteStaysSet xs → By (left s) P (log s xs)
@@ -59,7 +59,7 @@ module _ (P : Entry → Type 0) (Waits : Sender → Type 0) (left : Sender → �
         sent next (inr q) = by_later (left (after s x)) (left s) P e (log (after s x) xs) q.1 (next q.0)
 
         go : By (left s) P (log s xs) → (Waits (after s x) → By (left (after s x)) P (log (after s x) xs))
-            → Stayed s x ⊎ ((rule : Rule) × Went s x rule) → By (left s) P (log s (x ∷ xs))
+            → Stayed s x ⊎ ((rule : Rule) × Moved s x rule) → By (left s) P (log s (x ∷ xs))
         go here next (inl q) = rw (log-stayed s x xs q) here
         go here next (inr (rule, q)) = rw (log_went s x xs rule q) (sent next (moves s x rule w m.0 q))
 
@@ -75,20 +75,20 @@ Moves s x =
     MuteGone (entry_of s x)
     ⊎ ((sounding (after s x) ≡ true) × (calls_left (word_due (after s x)) < calls_left (word_due s)))
 
-mute_moves : (s : Sender) (x : Turn) (rule : Rule) → sounding s ≡ true → x.call.mute ≡ true → Went s x rule → Moves s x
+mute_moves : (s : Sender) (x : Turn) (rule : Rule) → sounding s ≡ true → x.call.mute ≡ true → Moved s x rule → Moves s x
 unfolding plan_by rule_of
 mute_moves s x rule h m w = due_cases (λ d. word_due s ≡ d → Moves s x) item plain s refl
   where
     item : word_due s ≡ AnItem → Moves s x
     item d =
         let own : rule_of s x.call.mute ≡ AsItem = rw d in
-        let i : Went s x AsItem = subst (λ (q : Rule). Went s x q) (w.rule_is ∙ own) w in
+        let i : Moved s x AsItem = subst (λ (q : Rule). Moved s x q) (w.rule_is ∙ own) w in
         inr (rw i.state h, rw (i.state, d) (omega arith))
 
     plain : word_due s ≡ Plain → Moves s x
     plain d =
         let own : rule_of s x.call.mute ≡ MuteOff = rw (d, h, m) in
-        let o : Went s x MuteOff = subst (λ (q : Rule). Went s x q) (w.rule_is ∙ own) w in
+        let o : Moved s x MuteOff = subst (λ (q : Rule). Moved s x q) (w.rule_is ∙ own) w in
         inl (record { command = d; muted = m; held = o.answer; octets = o.line })
 
 pub mute_bound : MuteBound

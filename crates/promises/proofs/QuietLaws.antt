@@ -5,6 +5,7 @@ use mathlib.Core.Bool.{true}
 use Prim.Native.Nat.{ℕ, zero, suc}
 use native.Mathlib.Omega.{arith}
 use lib.ListN.{length, replicate}
+use Rattle.std.specs.Prelude.{Ok}
 use Rattle.crc.specs.Crc.{block_crc_of}
 use Rattle.numbers.specs.Numbers.{following}
 use Rattle.modes.specs.Modes.{audio_off, lsd_off, off, mode}
@@ -20,7 +21,7 @@ use Rattle.control.specs.Refusals.{clashes, ruling_of}
 use Rattle.control.specs.Decisions.{decision_of}
 use Rattle.sending.specs.Step.{block_for, outcome_of}
 use Rattle.sender.specs.declared.Sender.{Sender}
-use Rattle.control.specs.declared.Answer.TheVariants.{Sent}
+use Rattle.control.specs.declared.Went.TheVariants.{Sent}
 use Rattle.sending.proofs.OutcomeLaws.{stays_in_range}
 use Rattle.reader.specs.State.{fresh_in}
 use Rattle.promises.specs.Session.{Turn, turned, after, log}
@@ -37,7 +38,7 @@ still block remainder =
     record { chosen = audio_off; mode = mode audio_off lsd_off; block = block; due = 0; remainder = remainder }
 
 module _ (b : BlockNumber) (n : ℕ) (range : state_in_range (still b n) ≡ true) where
-  calm-sent : (turned (still b n) calm).outcome.answer ≡ Sent
+  calm-sent : (turned (still b n) calm).outcome.answer ≡ Ok Sent
   unfolding turned outcome_of decision_of ruling_of rule_of plan_by sender_carries carried clashes
   calm-sent = rw range
 

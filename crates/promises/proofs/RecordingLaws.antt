@@ -9,13 +9,13 @@ use lib.Dec.{leb}
 use lib.ListN.{length, get_or, take, drop, length-append, length-drop, get_or-append}
 use lib.Seq.{take_at, drop_at, drop-drop, get_or-append-add, drop-append_seam}
 use borrow.Author.Tests.{eq-eqb, le-leb, le-ltb, leb-true}
+use Rattle.std.specs.Prelude.{Ok}
 use Rattle.bits.specs.Bits.{sc_bit, number, xors}
 use Rattle.bits.proofs.BoolLaws.{and_left, and_right}
 use Rattle.bas.specs.Reading.{weight}
 use Rattle.service.specs.Service.{even_alignment}
 use Rattle.service.specs.Channel.{channel_bits, alignment_bits, wrong_bits}
 use Rattle.search.specs.Finding.{spells, aligned, bad_length, search_of}
-use Rattle.search.specs.declared.Found.TheVariants.{Place}
 use Rattle.search.proofs.PlaceLaws.{spelled-bits, first_step, found-fits, found-smallest, none_fits}
 use Rattle.round.proofs.HeaderLaws.{alignment_back}
 use Rattle.sender.specs.declared.Sender.{Sender}
@@ -23,17 +23,17 @@ use Rattle.control.specs.declared.Rule.{Rule}
 use Rattle.reader.specs.State.{known, state_in_range}
 use Rattle.track.specs.Signs.{signs_of}
 use Rattle.reading.specs.Step as reading
+use Rattle.track.specs.Step as tracking
 use Rattle.track.specs.Step.{report_of, step_of}
 use Rattle.reader.specs.declared.Reader.{Reader}
-use Rattle.track.specs.declared.Stepped as read
 use Rattle.track.specs.declared.Standing.TheVariants.{Waiting, Read}
 use Rattle.track.specs.declared.Verdict.TheVariants.{None}
-use Rattle.reading.specs.declared.Answer as heard
 use Rattle.words.specs.declared.Reading.TheVariants.{NotRead}
-use Rattle.reading.proofs.OutcomeLaws.{takes, taken_is}
+use Rattle.reading.proofs.OutcomeLaws.{takes, told_handed}
 use Rattle.track.proofs.RangeLaws.{step_in_range}
 use Rattle.recording.specs.Walk.{left_from, block_at, is_lost, buffers_by, stepped_by, answer_at, step_at, look_at, buffers_at}
-use Rattle.recording.specs.declared.Answer as walked
+use Rattle.recording.specs.declared.Answer.{Answer}
+use Rattle.recording.specs.declared.Answer.TheVariants.{Block}
 use Rattle.recording.specs.declared.Stepped.{Stepped}
 use Rattle.recording.proofs.StepLaws.{look-step, rules_go}
 use Rattle.buffers.specs.Buffers.{Buffers, lengths}
@@ -41,7 +41,7 @@ use Rattle.buffers.specs.Lengths.{line_octets, stream_octets, zeroed}
 use Rattle.promises.specs.Session.{Turn, after, Entry, log, block_sent}
 use Rattle.promises.specs.Demand2.{reader_after, reader_on, AllBack, InStep, until_six, sender_on}
 use Rattle.promises.specs.Recordings.{Aligned, SearchFinds, octets_sent, FindsAlignment, Steps, AsRead, AllAsRead, WalksAsRead, AllStepsBack, WalkStaysInStep, walkedOn, WalkComesIntoStep}
-use Rattle.promises.proofs.TurnLaws.{Stayed, Went, turn_cases, log-stayed, log_went}
+use Rattle.promises.proofs.TurnLaws.{Stayed, Moved, turn_cases, log-stayed, log_went}
 use Rattle.promises.proofs.InStepLaws.{line_is, line-length, stays_in_step}
 use Rattle.promises.proofs.JoinLaws.{comes_into_step}
 
@@ -91,7 +91,7 @@ log-framed : (s : Sender) (xs : List Turn) → AllFramed (log s xs)
 log-framed s [] = tt
 log-framed s (x ∷ xs) = go (turn_cases s x) (log-framed s xs) (log-framed (after s x) xs)
   where
-    go : Stayed s x ⊎ ((rule : Rule) × Went s x rule) → AllFramed (log s xs) → AllFramed (log (after s x) xs) → AllFramed (log s (x ∷ xs))
+    go : Stayed s x ⊎ ((rule : Rule) × Moved s x rule) → AllFramed (log s xs) → AllFramed (log (after s x) xs) → AllFramed (log s (x ∷ xs))
     go (inl k) same next = rw (log-stayed s x xs k) same
     go (inr (rule, w)) same next =
         let word = ap alignment_bits (line_is s x rule w) ∙ alignment_back s.mode _ x.call.mute x.lent in
@@ -136,7 +136,7 @@ two_aligned b c z f g =
     rw (spelled 1 (b ++ c ++ z) here, one, spelled 161 (b ++ c ++ z) next, le-leb 168 (length (b ++ c ++ z)) long)
 
 -- ---- a search finds it
-found_at : (recording : List ℕ) (at : ℕ) → aligned (drop at recording) ≡ true → length recording ≤ 65536 → search_of recording at ≡ Place at
+found_at : (recording : List ℕ) (at : ℕ) → aligned (drop at recording) ≡ true → length recording ≤ 65536 → search_of recording at ≡ Ok at
 unfolding search_of bad_length
 found_at recording at a small =
     let inside : 168 ≤ length recording - at = omega (arith, (is_aligned (drop at recording) a).inside, length-drop at recording) in
@@ -150,7 +150,7 @@ pub finds_alignment : FindsAlignment
 finds_alignment s xs before more = go (log s xs) (log-framed s xs)
   where
     go : (es : List Entry) → AllFramed es → 2 ≤ length es → length (before ++ octets_sent es ++ more) ≤ 65536
-        → search_of (before ++ octets_sent es ++ more) (length before) ≡ Place (length before)
+        → search_of (before ++ octets_sent es ++ more) (length before) ≡ Ok (length before)
     go [] f two small = absurd (omega arith)
     go (e ∷ []) f two small = absurd (omega arith)
     go (e ∷ g ∷ es) f two small =
@@ -186,31 +186,29 @@ module _ (recording : List ℕ) (place : ℕ) (r : Reader) (e : Entry) (rest : L
     block_here : block_at recording place ≡ block_sent e
     block_here = ap (take line_octets) here ∙ take_at (block_sent e) rest line_octets framed.length
 
-    abbrev p : read.Stepped
+    abbrev p : tracking.Stepped
     p = step_of r (signs_of (block_sent e))
 
-    answered : (b : Buffers) → lengths b ≡ stream_octets → answer_at recording place false r b ≡ walked.TheVariants.Block p.report
+    answered : (b : Buffers) → lengths b ≡ stream_octets → answer_at recording place false r b ≡ Block p.report
     unfolding answer_at
     answered b fit =
         let go = rules_go (length recording) place r (lengths b) (record { range = range; streams = fit; small = small; inside = omega (arith, block_inside) }) in
         rw (go, le-ltb (left_from recording place) line_octets (omega (arith, block_inside)), block_here)
 
     as_read : Steps recording place r (AsRead place r e)
-    unfolding step_at buffers_at
+    unfolding step_at buffers_at reading.outcome_of
     as_read b x out fit ex eb =
         let a = answered b fit in
         let is = p.report in
-        let x-is = ex ∙ ap (λ (q : walked.Answer). stepped_by q recording place false r) a
-        ∙ ap (λ (l : List ℕ). record { answer = walked.TheVariants.Block is; reader = (step_of r (signs_of l)).state; place = place + line_octets; lost = is_lost is }) block_here in
-        let out-is = eb ∙ ap (λ (q : walked.Answer). buffers_by q recording place r b) a ∙ ap (reading.handed_by is.standing r.mode) block_here in
+        let x-is = ex ∙ ap (λ (q : Answer). stepped_by q recording place false r) a
+        ∙ ap (λ (l : List ℕ). record { answer = Block is; reader = (step_of r (signs_of l)).state; place = place + line_octets; lost = is_lost is }) block_here in
+        let out-is = eb ∙ ap (λ (q : Answer). buffers_by q recording place r b) a ∙ ap (reading.handed_by is.standing r.mode) block_here in
         let fits = takes r _ _ (record { range = range; line-fits = framed.length; streams = fit }) in
         let state = ap (λ (y : Stepped). y.reader) x-is in
         record {
           report = is;
           answer = ap (λ (y : Stepped). y.answer) x-is;
-          told =
-              subst (λ (q : Reader). reading.Told r (block_sent e) b (record { state = q; answer = heard.TheVariants.Block is }) out) (sym state)
-              (taken_is r (block_sent e) b p out fits refl out-is);
+          told = told_handed r (block_sent e) b x.reader is out (ap (λ (q : Reader). reading.outcome q (Ok is)) state ∙ rw fits) out-is;
           state = state;
           stands = ap (λ (y : Stepped). y.place) x-is;
           lost = ap (λ (y : Stepped). y.lost) x-is ∙ not_lost r (block_sent e) framed;
@@ -250,7 +248,7 @@ all_steps_back recording (e ∷ es) place r a b = (
       let back = b.0.hands c _ out fit read.told in
       let told = back.answer in
       let same : read.report ≡ back.report = cc in
-      record { outcome = _; back = back; answer = read.answer ∙ ap walked.TheVariants.Block same },
+      record { outcome = _; back = back; answer = read.answer ∙ ap Block same },
   all_steps_back recording es (place + line_octets) (reader_after r e) a.1 b.1,
 )
 

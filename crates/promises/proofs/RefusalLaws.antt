@@ -7,10 +7,9 @@ use native.Mathlib.Omega.{arith}
 use lib.Dec.{ltb}
 use lib.ListN.{length, get_or, drop, length-drop, drop_of_length-le}
 use lib.Seq.{drop-cons}
-use Rattle.refusals.specs.Rows.{first_given, ruling_number}
+use Rattle.std.specs.Prelude.{Ok, Err}
+use Rattle.refusals.specs.Rows.{Ruling, first_given, ruling_number}
 use Rattle.refusals.specs.declared.Refusal.TheVariants.{BadRecording}
-use Rattle.refusals.specs.declared.Ruling.{Ruling}
-use Rattle.refusals.specs.declared.Ruling.TheVariants.{Refuse, Accept}
 use Rattle.refusals.proofs.RowLaws.{number_is}
 use Rattle.control.specs.Refusals as sender-list
 use Rattle.sending.specs.Step as sending
@@ -18,12 +17,10 @@ use Rattle.sending.proofs.OutcomeLaws.{refused_is}
 use Rattle.presets.specs.Presets.{read_rows, read_by, preset_read, written_rows, written_by, preset_written, preset_number, written_number}
 use Rattle.sender.specs.declared.Sender.{Sender}
 use Rattle.control.specs.declared.Call.{Call}
-use Rattle.reader.specs.State as reader
 use Rattle.reading.specs.Refusals as reader-list
 use Rattle.reading.specs.Step as reading
 use Rattle.reader.specs.declared.Reader.{Reader}
 use Rattle.search.specs.Finding as finding
-use Rattle.search.specs.declared.Found.{Found}
 use Rattle.recording.specs.Refusals as walk-list
 use Rattle.recording.specs.Walk as walk
 use Rattle.recording.specs.declared.Answer.TheVariants.{End}
@@ -47,10 +44,10 @@ sending_refuses s c b line r l t =
     }
   where
     go : (q : Ruling) → sending.ruled s c b line ≡ q → (sender-list.number_in r.answer ≡ 0 → ⊥) → (r.state ≡ s) × (l ≡ line)
-    go (Refuse why) e h =
+    go (Err why) e h =
         let still = refused_is s c b line why e in
         (rw (t.outcome, still.0), t.octets ∙ still.1)
-    go Accept e h = absurd (h (t.number ∙ ap ruling_number e))
+    go (Ok u) e h = absurd (h (t.number ∙ ap ruling_number e))
 
 pub reading_refuses : Reading
 unfolding reading.outcome_of reading.buffers_of reader-list.ruling_of
@@ -63,8 +60,8 @@ reading_refuses s line b r out t =
   where
     go : (q : Ruling) → reading.ruled s line b ≡ q → (reader-list.number_in r.answer ≡ 0 → ⊥)
         → (r.state ≡ s) × (out ≡ b)
-    go (Refuse why) e h = (rw (t.outcome, e), rw (t.handed, e))
-    go Accept e h = absurd (h (rw (t.outcome, e)))
+    go (Err why) e h = (rw (t.outcome, e), rw (t.handed, e))
+    go (Ok u) e h = absurd (h (rw (t.outcome, e)))
 
 -- ---- the search goes through the places one by one, and so does the test for some place
 first-number : (n at : ℕ) (recording : List ℕ) → length recording - at ≡ n
@@ -77,7 +74,7 @@ first-number (suc n) at recording h =
     (go (finding.aligned (get_or recording at 0 ∷ drop (at + 1) recording)) (first-number n (at + 1) recording (omega arith)))
   where
     go : (b : Bool) → finding.found_number (finding.first_of n (at + 1) recording) ≡ cond (not (somewhere (drop (at + 1) recording))) 10 0
-        → finding.found_number (cond b (Found.Place at) (finding.first_of n (at + 1) recording)) ≡ cond (not (b || somewhere (drop (at + 1) recording))) 10 0
+        → finding.found_number (cond b (Ok at) (finding.first_of n (at + 1) recording)) ≡ cond (not (b || somewhere (drop (at + 1) recording))) 10 0
     go true ih = refl
     go false ih = ih
 
@@ -91,7 +88,7 @@ searching_refuses recording start r e =
     }
   where
     go : (b : Bool)
-        → finding.found_number (cond b (Found.Refused BadRecording) (finding.first_of (length recording - start) start recording))
+        → finding.found_number (cond b (Err BadRecording) (finding.first_of (length recording - start) start recording))
         ≡ cond b 9 (cond (not (somewhere (drop start recording))) 10 0)
     go true = refl
     go false = first-number (length recording - start) start recording refl
@@ -101,17 +98,17 @@ module _ (recording : List ℕ) (place : ℕ) (lost : Bool) (s : Reader) where
   here_number : walk-list.number_in (walk.answer_here recording place lost s) ≡ 0
   here_number = go lost (finding.search_of recording place) (ltb (walk.left_from recording place) line_octets)
     where
-      go : (l : Bool) (f : Found) (few : Bool)
+      go : (l : Bool) (f : finding.Found) (few : Bool)
           → walk-list.number_in (cond l (walk.found_again f (walk.left_from recording place)) (cond few (End (walk.left_from recording place)) (walk.block_read s recording place))) ≡ 0
-      go true (Found.Place p) few = refl
-      go true (Found.Refused why) few = refl
+      go true (Ok p) few = refl
+      go true (Err why) few = refl
       go false f true = refl
       go false f false = refl
 
   -- the answer's number is that of the ruling
   step-number : (q : Ruling) → walk-list.number_in (walk.answer_by q recording place lost s) ≡ ruling_number q
-  step-number (Refuse why) = refl
-  step-number Accept = here_number
+  step-number (Err why) = refl
+  step-number (Ok u) = here_number
 
 pub stepping_refuses : Stepping
 unfolding walk.step_at walk.buffers_at walk.answer_at walk-list.ruling_of
@@ -127,17 +124,17 @@ stepping_refuses recording place lost s b r out er eb =
     go : (q : Ruling) → walk-list.ruling_of (length recording) place s (lengths b) ≡ q
         → (walk-list.number_in r.answer ≡ 0 → ⊥)
         → (r.reader ≡ s) × (r.place ≡ place) × (r.lost ≡ lost) × (out ≡ b)
-    go (Refuse why) e h = (rw (er, e), rw (er, e), rw (er, e), rw (eb, e))
-    go Accept e h = absurd (h (rw (er, e) (here_number recording place lost s)))
+    go (Err why) e h = (rw (er, e), rw (er, e), rw (er, e), rw (eb, e))
+    go (Ok u) e h = absurd (h (rw (er, e) (here_number recording place lost s)))
 
 pub reading_preset_refuses : ReadingPreset
 unfolding preset_read
 reading_preset_refuses bits r e =
     record { ordered = refl; exact = rw e (go (first_given (read_rows bits)) ∙ number_is (read_rows bits)); kept = λ h. tt }
   where
-    go : (q : Ruling) → preset_number (read_by q bits).answer ≡ ruling_number q
-    go (Refuse why) = refl
-    go Accept = refl
+    go : (q : Ruling) → preset_number (read_by q bits) ≡ ruling_number q
+    go (Err why) = refl
+    go (Ok u) = refl
 
 pub writing_preset_refuses : WritingPreset
 unfolding preset_written
@@ -145,5 +142,5 @@ writing_preset_refuses s r e =
     record { ordered = refl; exact = rw e (go (first_given (written_rows s)) ∙ number_is (written_rows s)); kept = λ h. tt }
   where
     go : (q : Ruling) → written_number (written_by q s) ≡ ruling_number q
-    go (Refuse why) = refl
-    go Accept = refl
+    go (Err why) = refl
+    go (Ok u) = refl

@@ -2,6 +2,7 @@
 use mathlib.Core.Path.{◌≡◌, refl}
 use mathlib.Core.Bool.{Bool, true, false, not, cond, ◌&&◌, ◌||◌}
 use lib.Dec.{eqb}
+use Rattle.std.specs.Prelude.{Ok}
 use Rattle.codes.specs.Commands.{command_of, offered}
 use Rattle.codes.specs.declared.Command.{Command}
 use Rattle.codes.specs.declared.Command.TheVariants.{Neutral, SetAudio, SetLsd, NoEffect}
@@ -16,7 +17,7 @@ use Rattle.sender.specs.declared.Sender.{Sender}
 use Rattle.control.specs.declared.Call.{Call}
 use Rattle.control.specs.declared.Rule.{Rule}
 use Rattle.control.specs.declared.Rule.TheVariants.{AsItem, MuteOff, Release, Offered}
-use Rattle.control.specs.declared.Answer.TheVariants.{Sent, Held}
+use Rattle.control.specs.declared.Went.TheVariants.{Sent, Held}
 use Rattle.promises.specs.Demand1.{held, plain}
 use Rattle.promises.specs.Demand2.{word_told, chosen_by}
 
@@ -65,18 +66,18 @@ rule_plain s c =
     (λ m f k. refl) (λ k. refl) refl (λ k. refl) (λ k. refl) refl s c.mute
 
 -- the answer says whether the offered code is held
-pub rule_answer : (s : Sender) (c : Call) → (plan_by (rule_of s c.mute) s c.code).answer ≡ cond (held s c) Held Sent
+pub rule_answer : (s : Sender) (c : Call) → (plan_by (rule_of s c.mute) s c.code).went ≡ cond (held s c) Held Sent
 unfolding plan_by
 rule_answer s c =
-    each_rule (λ d m f k rule. (plan_by rule s c.code).answer ≡ cond (not (is_item d) && (m && f || not m && not f && k)) Held Sent)
+    each_rule (λ d m f k rule. (plan_by rule s c.code).went ≡ cond (not (is_item d) && (m && f || not m && not f && k)) Held Sent)
     (λ m f k. refl) (λ k. refl) refl (λ k. refl) (λ k. refl) refl s c.mute
 
 -- and which word went
 pub rule_word : (s : Sender) (c : Call)
-    → word_told (plan_by (rule_of s c.mute) s c.code).answer c.mute s c.code ≡ (plan_by (rule_of s c.mute) s c.code).word
+    → word_told (Ok (plan_by (rule_of s c.mute) s c.code).went) c.mute s c.code ≡ (plan_by (rule_of s c.mute) s c.code).word
 unfolding plan_by
 rule_word s c =
-    each_rule (λ d m f k rule. word_told (plan_by rule s c.code).answer m s c.code ≡ (plan_by rule s c.code).word)
+    each_rule (λ d m f k rule. word_told (Ok (plan_by rule s c.code).went) m s c.code ≡ (plan_by rule s c.code).word)
     (λ m f k. refl) (λ k. refl) refl (λ k. refl) (λ k. refl) refl s c.mute
 
 -- only an offered command changes what is chosen

@@ -5,14 +5,16 @@ use mathlib.Core.List.{List, [], ◌∷◌}
 use Prim.Native.Nat.{ℕ}
 use borrow.Author.Tests.{eqb-true, not-false}
 use lib.ListN.{length}
-use Rattle.table.specs.Table.{audio_table, audio_places, beside}
+use Rattle.std.specs.Prelude.{Result}
+use Rattle.refusals.specs.declared.Refusal.{Refusal}
+use Rattle.table.specs.Table.{audio_table, audio_places, beside, audio_listed}
 use Rattle.modes.specs.Owners.{held_by}
 use Rattle.modes.specs.Modes.{audio_off}
 use Rattle.modes.specs.declared.Mode.{Mode}
 use Rattle.places.specs.Layout.{layout_of}
 use Rattle.frame.proofs.BlockLaws.{silent-muted, silent-off}
 use Rattle.sender.specs.State.{sounding}
-use Rattle.sending.specs.Step.{header_for, block_for, state_by, line_by, decided, outcome_of, line_of, Told}
+use Rattle.sending.specs.Step.{header_for, block_for, state_by, answer_by, line_by, decided, outcome_of, line_of, Told}
 use Rattle.sender.specs.declared.Sender.{Sender}
 use Rattle.control.specs.declared.Call.{Call}
 use Rattle.control.specs.declared.Decision.{Decision}
@@ -25,7 +27,7 @@ use Rattle.promises.specs.Demand3.{silent, AlikeTurn, Alike, Silence}
 -- ---- a silent block does not depend on the voice
 -- with no audio in force, voice holds no places
 no_width : (m : Mode) → m.audio ≡ audio_off → (layout_of m).width ≡ 0
-unfolding layout_of held_by audio_places audio_table beside
+unfolding layout_of held_by audio_places audio_listed audio_table beside
 no_width m e = ap (λ (v : ℕ). (audio_places v).to) e
 
 block-silent : (s : Sender) (c : Call) (word : ℕ) (b other : Buffers) → b.lsd ≡ other.lsd → silent s c ≡ true
@@ -48,11 +50,10 @@ turn_same : (s : Sender) (x : Turn) (other : Buffers) → lengths x.lent ≡ len
     → turned s x ≡ turned s (lending x other)
 unfolding turned outcome_of line_of
 turn_same s x other fit blocks =
-    let d = decided s x.call other x.line in
-    rw fit (ap (left d) (blocks d.word))
+    rw fit (ap (left (decided s x.call other x.line)) (λ i word. blocks word i))
   where
-    left : Decision → List ℕ → Left
-    left d block = record { outcome = record { state = state_by d block; answer = d.answer }; line = line_by d block x.line }
+    left : Result Decision Refusal → (ℕ → List ℕ) → Left
+    left d block = record { outcome = record { state = state_by d s block; answer = answer_by d }; line = line_by d x.line block }
 
 turn-alike : (s : Sender) (x y : Turn) → AlikeTurn s x y → turned s x ≡ turned s y
 turn-alike s x y h =

@@ -6,7 +6,7 @@ use Prim.Native.Nat.{ℕ, ◌/◌, ◌%◌, ◌<◌}
 use native.Mathlib.Omega.{arith}
 use lib.Dec.{eqb, leb}
 use borrow.Author.Tests.{eqb-true, eqb-false, eq-eqb, ne_eqb, leb-false, lt-leb}
-use Rattle.bas.specs.declared.Word.TheVariants.{Code}
+use Rattle.std.specs.Prelude.{Some}
 use Rattle.table.specs.Table.{listed_audio}
 use Rattle.table.proofs.TableLaws.{audio-small}
 use Rattle.modes.specs.Owners.{overlaps}
@@ -176,7 +176,7 @@ obeyed-mended : (w : ℕ) (m : Mode) → obeyed (Mended w) m ≡ followed (comma
 unfolding obeyed
 obeyed-mended w m = refl
 
-plain-mended : (w : ℕ) → reader_carries w ≡ true → reading_in Plain (Code w) ≡ Mended w
+plain-mended : (w : ℕ) → reader_carries w ≡ true → reading_in Plain (Some w) ≡ Mended w
 unfolding reading_in
 plain-mended w k = rw (k, and-false)
 
@@ -198,14 +198,14 @@ module _ (s : Sender) (code : ℕ) where
 
   -- the reader's mode after the word is the sender's
   pub mode-follows : (rule : Rule) → Sends s code rule
-      → obeyed (reading_in (cond (goes_as_item rule) AnItem Plain) (Code (plan_by rule s code).word)) s.mode ≡ (plan_by rule s code).mode
+      → obeyed (reading_in (cond (goes_as_item rule) AnItem Plain) (Some (plan_by rule s code).word)) s.mode ≡ (plan_by rule s code).mode
   mode-follows rule k = go (goes_as_item rule) refl
     where
       w : ℕ
       w = (plan_by rule s code).word
 
-      go : (b : Bool) → goes_as_item rule ≡ b → obeyed (reading_in (cond b AnItem Plain) (Code w)) s.mode ≡ (plan_by rule s code).mode
-      go true e = item_no_command (Code w) s.mode ∙ sym (plan-mode s code rule k ∙ rw e)
+      go : (b : Bool) → goes_as_item rule ≡ b → obeyed (reading_in (cond b AnItem Plain) (Some w)) s.mode ≡ (plan_by rule s code).mode
+      go true e = item_no_command (Some w) s.mode ∙ sym (plan-mode s code rule k ∙ rw e)
       go false e =
           ap (λ (r : Reading). obeyed r s.mode) (plain-mended w (plain_carried s code rule k e))
           ∙ obeyed-mended w s.mode
@@ -214,7 +214,7 @@ module _ (s : Sender) (code : ℕ) where
 
   -- and the word due after it is the same
   pub due-after_same : (rule : Rule) → Sends s code rule
-      → due_after_now (cond (goes_as_item rule) AnItem Plain) (Code (plan_by rule s code).word)
+      → due_after_now (cond (goes_as_item rule) AnItem Plain) (Some (plan_by rule s code).word)
       ≡ cond (not (eqb (plan_by rule s code).due 0)) AnItem Plain
   unfolding plan_by opening_of due_after
   due-after_same AsItem k = refl

@@ -1,9 +1,10 @@
 -- Demand 1: every entry point takes any octets, lengths and saved state; it refuses by document 01's numbered list, only then, and a
 -- refusal leaves state and buffers untouched.
-use Rattle.std.specs.Prelude.{◌≡◌, Bool, true, false, not, cond, ◌&&◌, ◌||◌, List, [], ◌∷◌, map, ℕ, eqb, ltb, length, drop}
+use Rattle.std.specs.Prelude.{◌≡◌, Bool, true, false, not, cond, ◌&&◌, ◌||◌, List, [], ◌∷◌, map, ℕ, eqb, ltb, length, drop, Result}
 use Rattle.codes.specs.Codes.{attribute}
 use Rattle.codes.specs.Carried.{sender_carries}
 use Rattle.refusals.specs.Numbers.{ranked}
+use Rattle.refusals.specs.declared.Refusal.{Refusal}
 use Rattle.slots.specs.Slots.{is_item}
 use Rattle.sender.specs.State.{word_due, sounding, choosing}
 use Rattle.sender.specs.State as sender
@@ -12,17 +13,13 @@ use Rattle.sending.specs.Step as sending
 use Rattle.presets.specs.Presets.{is_preset, preset_read, preset_written, preset_number, written_number}
 use Rattle.sender.specs.declared.Sender.{Sender}
 use Rattle.control.specs.declared.Call.{Call}
-use Rattle.sending.specs.declared.Outcome as sent
 use Rattle.presets.specs.declared.PresetRead.{PresetRead}
-use Rattle.presets.specs.declared.PresetWritten.{PresetWritten}
 use Rattle.buffers.specs.Buffers.{Buffers}
 use Rattle.reader.specs.State as reader
 use Rattle.reading.specs.Refusals as reader-list
 use Rattle.reading.specs.Step as reading
 use Rattle.reader.specs.declared.Reader.{Reader}
-use Rattle.reading.specs.declared.Outcome as read
 use Rattle.search.specs.Finding as finding
-use Rattle.search.specs.declared.Found.{Found}
 use Rattle.recording.specs.Refusals as walk-list
 use Rattle.recording.specs.Walk.{step_at, buffers_at}
 use Rattle.recording.specs.declared.Stepped.{Stepped}
@@ -69,7 +66,7 @@ sending_rows s c b line =
     ∷ []
 
 abbrev pub Sending : Type 0
-Sending = (s : Sender) (c : Call) (b : Buffers) (line : List ℕ) (r : sent.Outcome) (l : List ℕ)
+Sending = (s : Sender) (c : Call) (b : Buffers) (line : List ℕ) (r : sending.Outcome) (l : List ℕ)
     → sending.Told s c b line r l
     → Refuses (sender-list.number_in r.answer) (sending_rows s c b line) ((r.state ≡ s) × (l ≡ line))
 
@@ -83,7 +80,7 @@ reading_rows s line b =
     ∷ []
 
 abbrev pub Reading : Type 0
-Reading = (s : Reader) (line : List ℕ) (b : Buffers) (r : read.Outcome) (out : Buffers)
+Reading = (s : Reader) (line : List ℕ) (b : Buffers) (r : reading.Outcome) (out : Buffers)
     → reading.Told s line b r out
     → Refuses (reader-list.number_in r.answer) (reading_rows s line b) ((r.state ≡ s) × (out ≡ b))
 
@@ -101,7 +98,7 @@ searching_rows recording start =
     ∷ []
 
 abbrev pub Searching : Type 0
-Searching = (recording : List ℕ) (start : ℕ) (r : Found) → r ≡ finding.search_of recording start
+Searching = (recording : List ℕ) (start : ℕ) (r : finding.Found) → r ≡ finding.search_of recording start
     → Refuses (finding.found_number r) (searching_rows recording start) (Unit {0})
 
 -- ---- `recording::step`: rows 1, 3, 4 and 9
@@ -122,9 +119,9 @@ Stepping = (recording : List ℕ) (place : ℕ) (lost : Bool) (s : Reader) (b : 
 
 -- ---- `presets::read_preset`: row 11; `presets::write_preset`: row 1. Neither is lent anything or gives back a state that it took
 abbrev pub ReadingPreset : Type 0
-ReadingPreset = (bits : ℕ) (r : PresetRead) → r ≡ preset_read bits
-    → Refuses (preset_number r.answer) (row 11 (not (is_preset bits)) ∷ []) (Unit {0})
+ReadingPreset = (bits : ℕ) (r : Result PresetRead Refusal) → r ≡ preset_read bits
+    → Refuses (preset_number r) (row 11 (not (is_preset bits)) ∷ []) (Unit {0})
 
 abbrev pub WritingPreset : Type 0
-WritingPreset = (s : Sender) (r : PresetWritten) → r ≡ preset_written s
+WritingPreset = (s : Sender) (r : Result ℕ Refusal) → r ≡ preset_written s
     → Refuses (written_number r) (row 1 (not (sender.state_in_range s)) ∷ []) (Unit {0})

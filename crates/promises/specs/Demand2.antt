@@ -1,18 +1,17 @@
 -- Demand 2: the octets sent are those that 01 lays down; the reader mends BAS words and sorts bits by the same rules (that it finds alignment
 -- is said in Recordings). A reader in step hands back every code, each data bit, each voice bit of an open block, and ones for a block
 -- muted before "audio off" takes hold.
-use Rattle.std.specs.Prelude.{◌≡◌, Bool, true, false, cond, List, [], ◌∷◌, ℕ, zero, suc, ◌-◌, ◌%◌, ◌^◌, ◌<◌, ◌≤◌, eqb, length, take, drop, replicate}
+use Rattle.std.specs.Prelude.{◌≡◌, Bool, true, false, cond, List, [], ◌∷◌, ℕ, zero, suc, ◌-◌, ◌%◌, ◌^◌, ◌<◌, ◌≤◌, eqb, length, take, drop, replicate, Some, Ok, Err}
 use Rattle.std.specs.Int.Bits.{bit_xor}
 use Rattle.bits.specs.Bits.{bits_of, low_bits, number, octets}
 use Rattle.crc.specs.Crc.{block_crc_of}
 use Rattle.bas.specs.Words as bas
 use Rattle.bas.specs.Reading.{weight, reading_of}
-use Rattle.bas.specs.declared.Word.TheVariants.{Code}
 use Rattle.buffers.specs.Buffers.{Buffers, each, lengths}
 use Rattle.buffers.specs.Lengths.{stream_octets}
 use Rattle.numbers.specs.Numbers.{following}
 use Rattle.modes.specs.Owners.{counting}
-use Rattle.modes.specs.Modes.{audio_off, off, mode}
+use Rattle.modes.specs.Modes.{audio_off, off}
 use Rattle.modes.specs.declared.Mode.{Mode}
 use Rattle.modes.specs.declared.Owner.{Owner}
 use Rattle.modes.specs.declared.Owner.TheVariants.{Service, Voice, Lsd, Nobody}
@@ -29,16 +28,14 @@ use Rattle.sender.specs.State as sending
 use Rattle.sender.specs.State.{word_due}
 use Rattle.sending.specs.Step.{header_for}
 use Rattle.sender.specs.declared.Sender.{Sender}
-use Rattle.control.specs.declared.Answer.{Answer}
-use Rattle.control.specs.declared.Answer.TheVariants.{Sent, Held, Refused}
+use Rattle.control.specs.Refusals.{Answer}
+use Rattle.control.specs.declared.Went.TheVariants.{Sent, Held}
 use Rattle.reader.specs.State.{unknown, known, state_in_range, fresh_in}
 use Rattle.track.specs.Signs.{signs_of}
 use Rattle.track.specs.Step.{step_of}
 use Rattle.reading.specs.Step as reading
 use Rattle.reader.specs.declared.Reader.{Reader}
 use Rattle.track.specs.declared.Report.{Report}
-use Rattle.reading.specs.declared.Outcome.{Outcome}
-use Rattle.reading.specs.declared.Answer.TheVariants.{Block}
 use Rattle.track.specs.declared.Standing.TheVariants.{Read}
 use Rattle.track.specs.declared.Verdict.TheVariants.{None, Good}
 use Rattle.promises.specs.Demand1.{held, plain}
@@ -51,14 +48,14 @@ answer_to e = (turned e.found e.turn).outcome.answer
 
 -- where mute's "audio off" or the chosen command goes, the offered code is held and the answer says so; in all others it goes
 abbrev pub Answered : Entry → Type 0
-Answered e = answer_to e ≡ cond (held e.found e.turn.call) Held Sent
+Answered e = answer_to e ≡ Ok (cond (held e.found e.turn.call) Held Sent)
 
 -- the word that an answer says has gone: answered "sent", the offered code; answered "held", mute's "audio off" where mute is set in that
 -- call, else the chosen command. A refused call sends none, and no entry is refused
 abbrev pub word_told : Answer → Bool → Sender → ℕ → ℕ
-word_told Sent mute s code = code
-word_told Held mute s code = written audio_attribute (cond mute audio_off s.chosen)
-word_told (Refused r) mute s code = 0
+word_told (Ok Sent) mute s code = code
+word_told (Ok Held) mute s code = written audio_attribute (cond mute audio_off s.chosen)
+word_told (Err r) mute s code = 0
 
 -- the word of an accepted call (DECISIONS F40)
 abbrev pub word_sent : Entry → ℕ
@@ -91,7 +88,7 @@ pub record GoesOn (e : Entry) (s : Sender) : Type 0 where
   pub remainder : s.remainder ≡ block_crc_of (block_sent e)
   pub mode : s.mode ≡ commanded (word_due e.found) (word_sent e) e.found.mode
   pub chosen : s.chosen ≡ cond (plain e.found e.turn.call) (chosen_by (command_of e.turn.call.code) e.found.chosen) e.found.chosen
-  pub due : word_due s ≡ due_after (word_due e.found) (Code (word_sent e))
+  pub due : word_due s ≡ due_after (word_due e.found) (Some (word_sent e))
 
 -- block after block: each is answered by what went, is laid down, and finds what the one before left
 abbrev pub BlockAfterBlock : Sender → List Entry → Type 0
@@ -154,18 +151,18 @@ handed_back e = each (octets stream_octets.voice (stream_bits Voice e)) (octets 
 -- whatever the reader's contract allows, with buffers of the right lengths: the block is read; its word is the word sent, under the
 -- reading that its slot gives it; voice and data are the sender's, and zeros after them; every verdict but a first is good once the
 -- remainder agrees
-pub record HandedBack (e : Entry) (r : Reader) (o : Outcome) (out : Buffers) : Type 0 where
+pub record HandedBack (e : Entry) (r : Reader) (o : reading.Outcome) (out : Buffers) : Type 0 where
   pub report : Report
-  pub answer : o.answer ≡ Block report
+  pub answer : o.answer ≡ Ok report
   pub read : report.standing ≡ Read
-  pub word : report.reading ≡ reading_in (word_due e.found) (Code (word_sent e))
+  pub word : report.reading ≡ reading_in (word_due e.found) (Some (word_sent e))
   pub first : r.before ≡ 0 → report.verdict ≡ None
   pub good : Agrees e.found r → report.verdict ≡ Good
   pub streams : out ≡ handed_back e
   pub state : o.state ≡ reader_after r e
 
 pub record Back (e : Entry) (r : Reader) : Type 0 where
-  pub hands : (b : Buffers) (o : Outcome) (out : Buffers) → lengths b ≡ stream_octets
+  pub hands : (b : Buffers) (o : reading.Outcome) (out : Buffers) → lengths b ≡ stream_octets
       → reading.Told r (block_sent e) b o out → HandedBack e r o out
   pub step : InStep (after e.found e.turn) (reader_after r e)
   pub agrees : Agrees (after e.found e.turn) (reader_after r e)
@@ -186,8 +183,8 @@ StaysInStep = (s : Sender) (r : Reader) (xs : List Turn) → EightBits xs → In
 -- ---- the reader mends BAS words
 -- a word of which at most two bits came wrong is read as the code that was sent, and one of which more did never is
 pub record Mends (code wrong : ℕ) : Type 0 where
-  pub few : weight (low_bits 16 wrong) ≤ 2 → reading_of (bit_xor (bas.word_of code) wrong) ≡ Code code
-  pub many : 2 < weight (low_bits 16 wrong) → reading_of (bit_xor (bas.word_of code) wrong) ≡ Code code → ⊥
+  pub few : weight (low_bits 16 wrong) ≤ 2 → reading_of (bit_xor (bas.word_of code) wrong) ≡ Some code
+  pub many : 2 < weight (low_bits 16 wrong) → reading_of (bit_xor (bas.word_of code) wrong) ≡ Some code → ⊥
 
 abbrev pub MendsWords : Type 0
 MendsWords = (code wrong : ℕ) → code < 256 → Mends code wrong

@@ -1,16 +1,16 @@
 -- Demand 3: what is silent stays silent, and mute's own "audio off" goes out in time, as a command.
-use Rattle.std.specs.Prelude.{◌≡◌, Bool, true, false, not, ◌||◌, List, [], ◌∷◌, ◌⊎◌, ℕ, zero, suc, length}
+use Rattle.std.specs.Prelude.{◌≡◌, Bool, true, false, not, ◌||◌, List, [], ◌∷◌, ◌⊎◌, ℕ, zero, suc, length, Ok}
 use Rattle.modes.specs.Modes.{audio_off}
 use Rattle.codes.specs.Codes.{written, audio_attribute}
 use Rattle.sender.specs.State.{word_due, sounding}
 use Rattle.sending.specs.Step.{block_for}
 use Rattle.sender.specs.declared.Sender.{Sender}
 use Rattle.control.specs.declared.Call.{Call}
-use Rattle.control.specs.declared.Answer.TheVariants.{Held}
+use Rattle.control.specs.declared.Went.TheVariants.{Held}
 use Rattle.slots.specs.declared.Due.TheVariants.{Plain}
 use Rattle.words.specs.declared.Reading.TheVariants.{Mended}
 use Rattle.reader.specs.declared.Reader.{Reader}
-use Rattle.reading.specs.declared.Outcome.{Outcome}
+use Rattle.reading.specs.Step.{Outcome}
 use Rattle.buffers.specs.Buffers.{Buffers}
 use Rattle.promises.specs.Demand2.{answer_to, InStep, reader_after, HandedBack, EightBits}
 use Rattle.promises.specs.Session.{Turn, Left, turned, after, Allowed, Entry, log}
@@ -47,7 +47,7 @@ MuteStaysSet (x ∷ xs) = (x.call.mute ≡ true) × MuteStaysSet xs
 pub record MuteGone (e : Entry) : Type 0 where
   pub command : word_due e.found ≡ Plain
   pub muted : e.turn.call.mute ≡ true
-  pub held : answer_to e ≡ Held
+  pub held : answer_to e ≡ Ok Held
   pub octets : (turned e.found e.turn).line
       ≡ block_for e.found e.turn.call (written audio_attribute audio_off) e.turn.lent
 

@@ -1,9 +1,8 @@
 -- Demand 1 of the other entry points: the looks, the walk's functions, every exported call in C that can refuse, and what the listings
 -- promise instead. The rows of each are those of `Demand1`.
-use Rattle.std.specs.Prelude.{◌≡◌, Bool, not, cond, ◌||◌, List, [], ◌∷◌, ◌++◌, ℕ, ◌+◌, ◌≤◌, ◌<◌, eqb, ltb, length, take, drop}
+use Rattle.std.specs.Prelude.{◌≡◌, Bool, not, cond, ◌||◌, List, [], ◌∷◌, ◌++◌, ℕ, ◌+◌, ◌≤◌, ◌<◌, eqb, ltb, length, take, drop, Ok}
 use Rattle.text.specs.Over.{Written}
 use Rattle.search.specs.Finding.{search_of}
-use Rattle.search.specs.declared.Found.TheVariants.{Place}
 use Rattle.sender.specs.State as sender
 use Rattle.presets.specs.Presets.{is_preset}
 use Rattle.sender.specs.declared.Sender.{Sender}
@@ -12,7 +11,6 @@ use Rattle.reader.specs.State as reader
 use Rattle.reading.specs.Refusals as reader-list
 use Rattle.reading.specs.Step as reading
 use Rattle.reader.specs.declared.Reader.{Reader}
-use Rattle.reading.specs.declared.Outcome as read
 use Rattle.recording.specs.Refusals as walk-list
 use Rattle.recording.specs.Walk.{step_at, look_at, buffers_at}
 use Rattle.recording.specs.declared.Stepped.{Stepped}
@@ -40,7 +38,7 @@ abbrev pub looking_rows : Reader → List ℕ → List Row
 looking_rows s line = row 1 (not (reader.state_in_range s)) ∷ row 2 (not (eqb (length line) 160)) ∷ []
 
 abbrev pub Looking : Type 0
-Looking = (s : Reader) (line : List ℕ) (r : read.Outcome) → r ≡ reading.look_of s line
+Looking = (s : Reader) (line : List ℕ) (r : reading.Outcome) → r ≡ reading.look_of s line
     → Refuses (reader-list.number_in r.answer) (looking_rows s line) (r.state ≡ s)
 
 -- ---- `recording::look` and `looking::look_from`: rows 1 and 9
@@ -94,7 +92,7 @@ ReadingInC = (s : Reader) (line : List ℕ) (b : Buffers) (r : ReadAnswer) (next
 -- `delampuk_search`: where it does not refuse, its place is the one that the search found
 abbrev pub SearchingInC : Type 0
 SearchingInC = (recording : List ℕ) (start : ℕ) (r : SearchAnswer) → r ≡ search_answer_of (search_of recording start)
-    → Refuses r.number (searching_rows recording start) (Unit {0}) × (r.number ≡ 0 → search_of recording start ≡ Place r.place)
+    → Refuses r.number (searching_rows recording start) (Unit {0}) × (r.number ≡ 0 → search_of recording start ≡ Ok r.place)
 
 -- `delampuk_step`: kind 3 is refused, and then the whole walk is as it was, its mark and its reserved octets too
 abbrev pub SteppingInC : Type 0
@@ -118,7 +116,7 @@ pub record Lists (recording text : List ℕ) (r : ℕ) (t : List ℕ) : Type 0 w
   pub none : (first (searching_rows recording 0) ≡ 0 → ⊥) → listing_of recording ≡ number_line "none " (first (searching_rows recording 0))
   -- or "found" and the place; and the last line is the octets left
   pub begins : first (searching_rows recording 0) ≡ 0
-      → (p : ℕ) × (rest : List ℕ) × (search_of recording 0 ≡ Place p) × (listing_of recording ≡ number_line "found " p ++ rest)
+      → (p : ℕ) × (rest : List ℕ) × (search_of recording 0 ≡ Ok p) × (listing_of recording ≡ number_line "found " p ++ rest)
   pub ends : first (searching_rows recording 0) ≡ 0 → (done : List ℕ) × (left : ℕ) × (listing_of recording ≡ done ++ number_line "left " left)
   -- a text that is long enough holds it whole and keeps the rest; a shorter one holds what fits, and one more than its length is answered
   pub whole : length (listing_of recording) ≤ length text

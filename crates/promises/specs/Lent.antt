@@ -1,7 +1,6 @@
 -- Demands 2 and 3 at the boundary. What `delampuk_send` leaves of calls over one lent state is what a session of `sending::send` leaves, in
 -- the numbers that cross to C; and what `delampuk_read` gives of a block is what a reader in step hands back, in these numbers.
-use Rattle.std.specs.Prelude.{◌≡◌, List, [], ◌∷◌, map, ℕ}
-use Rattle.bas.specs.declared.Word.TheVariants.{Code}
+use Rattle.std.specs.Prelude.{◌≡◌, List, [], ◌∷◌, map, ℕ, Some}
 use Rattle.words.specs.Readings.{reading_in, reading_kind, reading_code}
 use Rattle.sender.specs.State.{word_due}
 use Rattle.sender.specs.declared.Sender.{Sender}
@@ -72,8 +71,8 @@ LentSilence = (s : Sender) (xs ys : List Given) (ls ms : List LeftInC) → Allow
 pub record BackInC (e : Entry) (r : Reader) (a : ReadAnswer) (next : Reader) (out : Buffers) : Type 0 where
   pub accepted : (a.kind ≡ 0) × (a.number ≡ 0)
   pub read : a.block.standing ≡ standing_number Read
-  pub kind : a.block.reading ≡ reading_kind (reading_in (word_due e.found) (Code (word_sent e)))
-  pub code : a.block.code ≡ reading_code (reading_in (word_due e.found) (Code (word_sent e)))
+  pub kind : a.block.reading ≡ reading_kind (reading_in (word_due e.found) (Some (word_sent e)))
+  pub code : a.block.code ≡ reading_code (reading_in (word_due e.found) (Some (word_sent e)))
   pub first : r.before ≡ 0 → a.block.verdict ≡ verdict_number None
   pub good : Agrees e.found r → a.block.verdict ≡ verdict_number Good
   pub streams : out ≡ handed_back e

@@ -1,8 +1,6 @@
 -- Document 01, 'How much each contract has to say': five wrong programs, none of which meets its contract.
-use Rattle.std.specs.Prelude.{◌≡◌, true, false, List, ℕ, drop}
-use Rattle.search.specs.Finding.{search_of}
-use Rattle.search.specs.declared.Found.{Found}
-use Rattle.search.specs.declared.Found.TheVariants.{Place}
+use Rattle.std.specs.Prelude.{◌≡◌, true, false, List, ℕ, drop, Ok}
+use Rattle.search.specs.Finding.{Found, search_of}
 use Rattle.sending.specs.Step.{Told}
 use Rattle.sender.specs.declared.Sender.{Sender}
 use Rattle.promises.specs.Session.{Turn, Left, accepted}
@@ -40,4 +38,4 @@ NoneIsEnough = (p : Program) → Meets p → (RefusesEverything p → ⊥) × (S
 -- and a finder reporting a made-up place: whatever meets the contract of a search reports a place where alignment stands
 abbrev pub NoPlaceMadeUp : Type 0
 NoPlaceMadeUp = (find : List ℕ → ℕ → Found) → ((recording : List ℕ) (start : ℕ) → find recording start ≡ search_of recording start)
-    → (recording : List ℕ) (start p : ℕ) → find recording start ≡ Place p → Aligned (drop p recording)
+    → (recording : List ℕ) (start p : ℕ) → find recording start ≡ Ok p → Aligned (drop p recording)

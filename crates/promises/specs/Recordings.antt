@@ -1,9 +1,8 @@
 -- Demand 2 of recordings: the reader finds alignment. The octets that a session sent are found by a search, and a walk over them answers
 -- block after block what the reader answers of these blocks.
-use Rattle.std.specs.Prelude.{◌≡◌, Bool, true, false, List, [], ◌∷◌, ◌++◌, ℕ, zero, suc, ◌+◌, ◌≤◌, ◌<◌, length, get_or, drop}
+use Rattle.std.specs.Prelude.{◌≡◌, Bool, true, false, List, [], ◌∷◌, ◌++◌, ℕ, zero, suc, ◌+◌, ◌≤◌, ◌<◌, length, get_or, drop, Ok, Err}
 use Rattle.bits.specs.Bits.{sc_bit}
 use Rattle.search.specs.Finding.{search_of}
-use Rattle.search.specs.declared.Found.TheVariants.{Place, Refused}
 use Rattle.refusals.specs.declared.Refusal.TheVariants.{NoPlace}
 use Rattle.sender.specs.State as sending
 use Rattle.slots.specs.declared.Due.TheVariants.{Plain}
@@ -13,12 +12,10 @@ use Rattle.reader.specs.State.{state_in_range}
 use Rattle.reading.specs.Step as reading
 use Rattle.reader.specs.declared.Reader.{Reader}
 use Rattle.track.specs.declared.Report.{Report}
-use Rattle.reading.specs.declared.Answer as read
-use Rattle.reading.specs.declared.Outcome.{Outcome}
 use Rattle.buffers.specs.Buffers.{Buffers, lengths}
 use Rattle.buffers.specs.Lengths.{line_octets, stream_octets}
 use Rattle.recording.specs.Walk.{step_at, look_at, buffers_at}
-use Rattle.recording.specs.declared.Answer as walked
+use Rattle.recording.specs.declared.Answer.TheVariants.{Block}
 use Rattle.recording.specs.declared.Stepped.{Stepped}
 use Rattle.promises.specs.Session.{Turn, Entry, log, block_sent}
 use Rattle.promises.specs.Demand2.{InStep, Waits, EightBits, reader_after, HandedBack, until_six, sender_on}
@@ -39,10 +36,10 @@ pub record Aligned (part : List ℕ) : Type 0 where
 
 -- a place is answered only if alignment stands there and at no place before it, from the start on; and "no such place" only if it stands at none
 pub record Finds (recording : List ℕ) (start : ℕ) : Type 0 where
-  pub begins : (p : ℕ) → search_of recording start ≡ Place p → start ≤ p
-  pub fits : (p : ℕ) → search_of recording start ≡ Place p → Aligned (drop p recording)
-  pub smallest : (p q : ℕ) → search_of recording start ≡ Place p → start ≤ q → q < p → Aligned (drop q recording) → ⊥
-  pub none : (q : ℕ) → search_of recording start ≡ Refused NoPlace → start ≤ q → Aligned (drop q recording) → ⊥
+  pub begins : (p : ℕ) → search_of recording start ≡ Ok p → start ≤ p
+  pub fits : (p : ℕ) → search_of recording start ≡ Ok p → Aligned (drop p recording)
+  pub smallest : (p q : ℕ) → search_of recording start ≡ Ok p → start ≤ q → q < p → Aligned (drop q recording) → ⊥
+  pub none : (q : ℕ) → search_of recording start ≡ Err NoPlace → start ≤ q → Aligned (drop q recording) → ⊥
 
 abbrev pub SearchFinds : Type 0
 SearchFinds = (recording : List ℕ) (start : ℕ) → Finds recording start
@@ -61,15 +58,15 @@ recorded before es more = before ++ octets_sent es ++ more
 abbrev pub FindsAlignment : Type 0
 FindsAlignment = (s : Sender) (xs : List Turn) (before more : List ℕ)
     → (let recording = recorded before (log s xs) more in
-    2 ≤ length (log s xs) → length recording ≤ 65536 → search_of recording (length before) ≡ Place (length before))
+    2 ≤ length (log s xs) → length recording ≤ 65536 → search_of recording (length before) ≡ Ok (length before))
 
 -- ---- a walk over it
 -- a step over a recorded block: it answers what the reader answers of that block, hands out what the reader hands out, leaves the reader as
 -- the block leaves it, and stands at the block's end, with nothing lost
 pub record AsRead (place : ℕ) (r : Reader) (e : Entry) (b : Buffers) (x : Stepped) (out : Buffers) : Type 0 where
   pub report : Report
-  pub answer : x.answer ≡ walked.TheVariants.Block report
-  pub told : reading.Told r (block_sent e) b (record { state = x.reader; answer = read.TheVariants.Block report }) out
+  pub answer : x.answer ≡ Block report
+  pub told : reading.Told r (block_sent e) b (reading.outcome x.reader (Ok report)) out
   pub state : x.reader ≡ reader_after r e
   pub stands : x.place ≡ place + line_octets
   pub lost : x.lost ≡ false
@@ -94,9 +91,9 @@ WalksAsRead = (s : Sender) (r : Reader) (xs : List Turn) (before more : List ℕ
 -- ---- so `StaysInStep` and `ComesIntoStep` hold of recordings
 -- a step hands back what a reader in step hands back
 pub record StepBack (e : Entry) (r : Reader) (x : Stepped) (out : Buffers) : Type 0 where
-  pub outcome : Outcome
+  pub outcome : reading.Outcome
   pub back : HandedBack e r outcome out
-  pub answer : x.answer ≡ walked.TheVariants.Block back.report
+  pub answer : x.answer ≡ Block back.report
 
 abbrev pub AllStepsBack : List ℕ → ℕ → Reader → List Entry → Type 0
 AllStepsBack recording place r [] = Unit {0}

@@ -5,35 +5,35 @@ use Rattle.std.specs.Prelude.{◌≡◌, List, [], ◌∷◌, ℕ, ◌+◌, ◌*
 use Rattle.sender.specs.declared.Sender.{Sender}
 use Rattle.reader.specs.declared.Reader.{Reader}
 use Rattle.keeping.specs.declared.WalkState.{WalkState}
-use Rattle.saving.specs.Saved.{sender_saved, sender_kept, sender_loaded, reader_saved, reader_kept, reader_loaded}
+use Rattle.saving.specs.Saved.{Load, sender_saved, sender_kept, sender_loaded, reader_saved, reader_kept, reader_loaded}
 use Rattle.keeping.specs.SavedWalk.{walk_saved, walk_kept, walk_loaded}
-use Rattle.saving.specs.declared.SenderLoad.{SenderLoad}
-use Rattle.saving.specs.declared.ReaderLoad.{ReaderLoad}
-use Rattle.keeping.specs.declared.WalkLoad.{WalkLoad}
 
 -- a length is none of these
 abbrev pub NoneOf : List ℕ → ℕ → Type 0
 NoneOf [] n = Unit {0}
 NoneOf (m ∷ ms) n = (n ≡ m → ⊥) × NoneOf ms n
 
+-- what loading leaves: a state, and its answer
+abbrev pub loaded : {S : Type 0} → S → ℕ → Load S
+loaded state answer = record { state = state; answer = answer }
+
 -- of states S: `octets` is the length of the form that is written, `older` are the lengths of those before it, `answer` and `after` are what saving
--- answers and leaves in the buffer, `load` is what loading leaves, and `told s n` is the state s with the answer n. Said of the states that the
--- library itself leaves, `whole`
-pub record Saves (S L : Type 0) (octets : ℕ) (older : List ℕ) (answer : S → List ℕ → ℕ) (after : S → List ℕ → List ℕ) (load : S → List ℕ → L) (told : S → ℕ → L) (whole : S → Type 0) : Type 0 where
-  pub back : (s was : S) (buffer : List ℕ) → whole s → length buffer ≡ octets → (answer s buffer ≡ 1) × (load was (after s buffer) ≡ told s 1)
+-- answers and leaves in the buffer, and `load` is what loading leaves. Said of the states that the library itself leaves, `whole`
+pub record Saves (S : Type 0) (octets : ℕ) (older : List ℕ) (answer : S → List ℕ → ℕ) (after : S → List ℕ → List ℕ) (load : S → List ℕ → Load S) (whole : S → Type 0) : Type 0 where
+  pub back : (s was : S) (buffer : List ℕ) → whole s → length buffer ≡ octets → (answer s buffer ≡ 1) × (load was (after s buffer) ≡ loaded s 1)
   pub room : (s : S) (buffer : List ℕ) → (length buffer ≡ octets → ⊥) → (answer s buffer ≡ 0) × (after s buffer ≡ buffer)
-  pub none : (was : S) (xs : List ℕ) → NoneOf (octets ∷ older) (length xs) → load was xs ≡ told was 0
+  pub none : (was : S) (xs : List ℕ) → NoneOf (octets ∷ older) (length xs) → load was xs ≡ loaded was 0
 
 abbrev pub SavesSender : Type 0
-SavesSender = Saves Sender SenderLoad 6 [] sender_saved sender_kept sender_loaded (λ s n. record { state = s; answer = n }) (λ s. Unit {0})
+SavesSender = Saves Sender 6 [] sender_saved sender_kept sender_loaded (λ s. Unit {0})
 
 abbrev pub SavesReader : Type 0
-SavesReader = Saves Reader ReaderLoad 12 [] reader_saved reader_kept reader_loaded (λ s n. record { state = s; answer = n }) (λ s. Unit {0})
+SavesReader = Saves Reader 12 [] reader_saved reader_kept reader_loaded (λ s. Unit {0})
 
 -- a walk's place is a number of 64 bits, and its reserved octets are not saved
 abbrev pub SavesWalk : Type 0
 SavesWalk =
-    Saves WalkState WalkLoad 21 [] walk_saved walk_kept walk_loaded (λ w n. record { state = w; answer = n })
+    Saves WalkState 21 [] walk_saved walk_kept walk_loaded
     (λ w. (w.place < 2 ^ 64) × (w.reserved ≡ replicate 3 0))
 
 -- ---- which octet is which. A saving and a loading call that both put the octets in another order would meet `Saves`, and not this

@@ -1,12 +1,10 @@
 -- Whole sessions of sending calls: what each call is lent, what it leaves, and which calls were accepted.
-use Rattle.std.specs.Prelude.{Bool, true, false, List, [], ◌∷◌, ℕ}
+use Rattle.std.specs.Prelude.{Bool, true, false, List, [], ◌∷◌, ℕ, is_ok}
 use Rattle.buffers.specs.Buffers.{Buffers}
-use Rattle.sending.specs.Step.{outcome_of, line_of, Told}
+use Rattle.sending.specs.Step.{Outcome, outcome_of, line_of, Told}
 use Rattle.sender.specs.declared.Sender.{Sender}
 use Rattle.control.specs.declared.Call.{Call}
-use Rattle.control.specs.declared.Answer.{Answer}
-use Rattle.control.specs.declared.Answer.TheVariants.{Sent, Held, Refused}
-use Rattle.sending.specs.declared.Outcome.{Outcome}
+use Rattle.control.specs.Refusals.{Answer}
 
 -- a call with what it is lent: the streams' buffers, and the line block as it stood
 pub record Turn : Type 0 where
@@ -42,9 +40,7 @@ Allowed s (x ∷ xs) (l ∷ ls) =
 
 -- refused calls send nothing
 abbrev pub accepted : Answer → Bool
-accepted Sent = true
-accepted Held = true
-accepted (Refused r) = false
+accepted answer = is_ok answer
 
 -- an accepted call, with the state that it found
 pub record Entry : Type 0 where

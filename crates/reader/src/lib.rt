@@ -3,18 +3,18 @@
 
 ghost use Rattle.std.specs.Prelude.{◌≡◌, ◌&&◌};
 ghost use Rattle.modes.specs.Modes.{off, in_range};
-ghost use Rattle.reader.specs.State.{state_in_range, fresh_in};
+ghost use Rattle.reader.specs.State.{known, state_in_range, fresh_in};
 
 use modes::Mode;
 use numbers::BlockNumber;
-use slots::Slot;
+use slots::{Due, Slot};
 
 // What a reader keeps between blocks: the mode in force; the mode before the first of a run of wrong alignment words, and that run; the
 // number of the next block, 0 while it is unknown; the odd-frame first bits since alignment, of which the last six count, as a number;
 // the run of wrong patterns; what is due; whether there is a block before, and its remainder (DECISIONS F19). Laid out as in C for a card
 // driver.
 #[repr(C)]
-#[derive(Clone, Copy, PartialEq, Eq)]
+#[derive(Clone, Copy, Debug, PartialEq, Eq)]
 pub struct Reader {
     pub mode: Mode,
     pub kept: Mode,
@@ -31,46 +31,54 @@ pub struct Reader {
 fn modes_in_range(mode: Mode, kept: Mode) -> bool
     ensures { result ≡ (in_range mode && in_range kept) }
 {
-    let first = modes::in_range(mode);
-    if modes::same(kept, mode) {
+    let first = mode.is_in_range();
+    if kept == mode {
         return first;
     }
-    first & modes::in_range(kept)
+    first & kept.is_in_range()
 }
 
-// Whether a state is in range.
-pub fn in_range(s: Reader) -> bool
-    ensures { result ≡ state_in_range s }
-{
-    let wrong = s.wrong;
-    let misses = s.misses;
-    let remainder = s.remainder;
-    let block = s.block.0;
-    modes_in_range(s.mode, s.kept) & (wrong <= 2) & (misses <= 2) & (remainder <= 15) & (block <= 8)
-}
-
-// The state that a reader starts in, but for the mode.
-pub fn fresh_in(mode: Mode) -> Reader
-    ensures { result ≡ fresh_in mode }
-{
-    let block = BlockNumber(0);
-    let slot = Slot { kind: 0, words: 0 };
-    Reader {
-        mode: mode,
-        kept: mode,
-        wrong: 0,
-        block: block,
-        firsts: 63,
-        misses: 0,
-        slot: slot,
-        before: 0,
-        remainder: 0,
+impl Reader {
+    // The state that a reader starts in, but for the mode.
+    pub fn fresh_in(mode: Mode) -> Reader
+        ensures { result ≡ fresh_in mode }
+    {
+        Reader {
+            mode,
+            kept: mode,
+            wrong: 0,
+            block: BlockNumber(0),
+            firsts: 63,
+            misses: 0,
+            slot: Slot::from(Due::Plain),
+            before: 0,
+            remainder: 0,
+        }
     }
-}
 
-// The state that a reader starts in.
-pub fn fresh() -> Reader
-    ensures { result ≡ fresh_in off }
-{
-    fresh_in(modes::off())
+    // The state that a reader starts in.
+    pub fn fresh() -> Reader
+        ensures { result ≡ fresh_in off }
+    {
+        Reader::fresh_in(Mode::off())
+    }
+
+    // Whether the number of the next block is known.
+    pub fn is_known(self) -> bool
+        ensures { result ≡ known self }
+    {
+        self.block.0 != 0
+    }
+
+    // Whether the state is in range.
+    #[tactic(auto, unfolding(crate::specs::State::state_in_range))]
+    pub fn is_in_range(self) -> bool
+        ensures { result ≡ state_in_range self }
+    {
+        modes_in_range(self.mode, self.kept)
+            & (self.wrong <= 2)
+            & (self.misses <= 2)
+            & (self.remainder <= 15)
+            & (self.block.0 <= 8)
+    }
 }

@@ -1,13 +1,12 @@
 -- What a call leaves, by its ruling; what is known where a block is taken; and that the contract allows one outcome alone.
-use mathlib.Core.Path.{◌≡◌, refl, sym, ◌∙◌}
-use mathlib.Core.Bool.{true}
+use mathlib.Core.Path.{◌≡◌, refl, sym, ap, ◌∙◌}
+use mathlib.Core.Bool.{true, false≢true}
 use mathlib.Core.List.{List}
 use Prim.Native.Nat.{ℕ}
 use borrow.Author.Tests.{eqb-true, eq-eqb, not-false}
-use Rattle.refusals.specs.Rows.{ruling_number}
+use Rattle.std.specs.Prelude.{Ok, Err, is_ok}
+use Rattle.refusals.specs.Rows.{Ruling, ruling_number}
 use Rattle.refusals.specs.declared.Refusal.{Refusal}
-use Rattle.refusals.specs.declared.Ruling.{Ruling}
-use Rattle.refusals.specs.declared.Ruling.TheVariants.{Refuse, Accept}
 use Rattle.refusals.proofs.RowLaws.{none_given}
 use Rattle.buffers.specs.Buffers.{Each, Buffers, lengths}
 use Rattle.buffers.specs.Lengths.{line_octets, stream_octets, fitting}
@@ -16,12 +15,10 @@ use Rattle.reader.specs.State.{state_in_range}
 use Rattle.track.specs.Signs.{signs_of}
 use Rattle.track.specs.Step.{step_of}
 use Rattle.reader.specs.declared.Reader.{Reader}
-use Rattle.track.specs.declared.Stepped.{Stepped}
 use Rattle.track.proofs.RangeLaws.{step_in_range}
-use Rattle.reading.specs.Refusals.{number_in, rows, ruling_of}
-use Rattle.reading.specs.Step.{handed_by, outcome_by, ruled, outcome_of, buffers_of, look_of, Told}
-use Rattle.reading.specs.declared.Answer.TheVariants.{Block, Refused}
-use Rattle.reading.specs.declared.Outcome.{Outcome}
+use Rattle.track.specs.declared.Report.{Report}
+use Rattle.reading.specs.Refusals.{Answer, number_in, rows, ruling_of}
+use Rattle.reading.specs.Step.{Outcome, outcome, handed_by, outcome_by, ruled, outcome_of, buffers_of, look_of, Told}
 
 -- ---- where a block is taken, the state is in range and the buffers have their lengths
 pub record Taken (s : Reader) (line : ℕ) (n : Each ℕ) : Type 0 where
@@ -29,7 +26,7 @@ pub record Taken (s : Reader) (line : ℕ) (n : Each ℕ) : Type 0 where
   pub line-fits : line ≡ line_octets
   pub streams : n ≡ stream_octets
 
-pub taken : (s : Reader) (line : ℕ) (n : Each ℕ) → ruling_of s line n ≡ Accept → Taken s line n
+pub taken : (s : Reader) (line : ℕ) (n : Each ℕ) → ruling_of s line n ≡ Ok tt → Taken s line n
 unfolding ruling_of
 taken s line n e =
     let h = none_given (rows s line n) e in
@@ -39,40 +36,60 @@ taken s line n e =
       streams = streams-fit n h.1.1.0 h.1.1.1.0;
     }
 
-pub taken-fitting : (s : Reader) (line : ℕ) (n : Each ℕ) → ruling_of s line n ≡ Accept → fitting line n ≡ true
+pub taken-fitting : (s : Reader) (line : ℕ) (n : Each ℕ) → ruling_of s line n ≡ Ok tt → fitting line n ≡ true
 taken-fitting s line n e = let t = taken s line n e in fits line n t.line-fits t.streams
 
 -- and where they are so, the block is taken
-pub takes : (s : Reader) (line : ℕ) (n : Each ℕ) → Taken s line n → ruling_of s line n ≡ Accept
+pub takes : (s : Reader) (line : ℕ) (n : Each ℕ) → Taken s line n → ruling_of s line n ≡ Ok tt
 unfolding ruling_of
 takes s line n t = rw (t.range, eq-eqb line line_octets t.line-fits, t.streams)
 
 -- the answer's number is that of the ruling
 ruled-number : (q : Ruling) (s : Reader) (line : List ℕ) → number_in (outcome_by q s line).answer ≡ ruling_number q
-ruled-number (Refuse r) s line = refl
-ruled-number Accept s line = refl
+ruled-number (Err r) s line = refl
+ruled-number (Ok u) s line = refl
+
+-- the report of an answer, or another one where it has none
+abbrev report_in : Answer → Report → Report
+report_in (Ok r) other = r
+report_in (Err q) other = other
 
 module _ (s : Reader) (line : List ℕ) (b : Buffers) where
   pub told : (r : Outcome) (after : Buffers) → r ≡ outcome_of s line b → after ≡ buffers_of s line b → Told s line b r after
   unfolding outcome_of
   told r after o h = record { outcome = o; handed = h; number = rw o (ruled-number (ruled s line b) s line) }
 
-  pub refused_is : (q : Refusal) → ruled s line b ≡ Refuse q → Told s line b (record { state = s; answer = Refused q }) b
+  -- a refused call leaves state and buffers as they were
+  pub was_refused : (n : Reader) (q : Refusal) → outcome n (Err q) ≡ outcome_of s line b → Told s line b (outcome n (Err q)) b
   unfolding outcome_of buffers_of
-  refused_is q e = told _ _ (rw e) (rw e)
+  was_refused n q o = told _ _ o (go (ruled s line b) refl o)
+    where
+      go : (p : Ruling) → ruled s line b ≡ p → outcome n (Err q) ≡ outcome_by p s line → b ≡ buffers_of s line b
+      go (Err w) r h = rw r
+      go (Ok u) r h = absurd (false≢true (ap (λ (x : Outcome). is_ok x.answer) h))
 
-  pub taken_is : (p : Stepped) (after : Buffers)
-      → ruled s line b ≡ Accept
-      → p ≡ step_of s (signs_of line)
-      → after ≡ handed_by p.report.standing s.mode line
-      → Told s line b (record { state = p.state; answer = Block p.report }) after
+  -- a call that answers a block was taken
+  pub was_taken : (n : Reader) (r : Report) → outcome n (Ok r) ≡ outcome_of s line b → ruled s line b ≡ Ok tt
+  unfolding outcome_of
+  was_taken n r o = go (ruled s line b) refl o
+    where
+      go : (p : Ruling) → ruled s line b ≡ p → outcome n (Ok r) ≡ outcome_by p s line → ruled s line b ≡ Ok tt
+      go (Err w) e h = absurd (false≢true (sym (ap (λ (x : Outcome). is_ok x.answer) h)))
+      go (Ok u) e h = e
+
+  -- and is told right where its buffers are handed out by that block
+  pub told_handed : (n : Reader) (r : Report) (after : Buffers) → outcome n (Ok r) ≡ outcome_of s line b
+      → after ≡ handed_by r.standing s.mode line → Told s line b (outcome n (Ok r)) after
   unfolding outcome_of buffers_of
-  taken_is p after e a h = told _ _ (rw (e, a)) (rw (e, h, a))
+  told_handed n r after o h =
+      let e = was_taken n r o in
+      let same = ap (λ (x : Outcome). report_in x.answer r) (rw e at o) in
+      told _ _ o (h ∙ ap (λ (x : Report). handed_by x.standing s.mode line) same ∙ rw e)
 
   -- what the contract says of a block that is taken
-  pub told_taken : (r : Outcome) (after : Buffers) → ruled s line b ≡ Accept → Told s line b r after
+  pub told_taken : (r : Outcome) (after : Buffers) → ruled s line b ≡ Ok tt → Told s line b r after
       → (let p = step_of s (signs_of line) in
-      (r ≡ record { state = p.state; answer = Block p.report }) × (after ≡ handed_by p.report.standing s.mode line))
+      (r ≡ record { state = p.state; answer = Ok p.report }) × (after ≡ handed_by p.report.standing s.mode line))
   unfolding outcome_of buffers_of
   told_taken r after e t = (rw e at t.outcome, rw e at t.handed)
 
@@ -82,8 +99,8 @@ unfolding outcome_of
 stays_in_range s line b r = go (ruled s line b)
   where
     go : (q : Ruling) → state_in_range (outcome_by q s line).state ≡ true
-    go (Refuse why) = r
-    go Accept = step_in_range s line r
+    go (Err why) = r
+    go (Ok u) = step_in_range s line r
 
 -- any two outcomes that the contract of a reading call allows are equal
 pub read-settled : (s : Reader) (line : List ℕ) (b : Buffers) (r q : Outcome) (v w : Buffers)

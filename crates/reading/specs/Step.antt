@@ -1,8 +1,6 @@
 -- Document 01, 'Reading a block': what one reading call leaves, the next state, the answer and the buffers.
-use Rattle.std.specs.Prelude.{◌≡◌, List, ℕ, length}
-use Rattle.refusals.specs.Rows.{ruling_number}
-use Rattle.refusals.specs.declared.Ruling.{Ruling}
-use Rattle.refusals.specs.declared.Ruling.TheVariants.{Refuse, Accept}
+use Rattle.std.specs.Prelude.{◌≡◌, List, ℕ, length, Ok, Err}
+use Rattle.refusals.specs.Rows.{Ruling, ruling_number}
 use Rattle.buffers.specs.Buffers.{Buffers, lengths}
 use Rattle.buffers.specs.Lengths.{stream_octets, zeroed}
 use Rattle.modes.specs.declared.Mode.{Mode}
@@ -12,9 +10,15 @@ use Rattle.track.specs.Step.{step_of}
 use Rattle.reader.specs.declared.Reader.{Reader}
 use Rattle.track.specs.declared.Standing.{Standing}
 use Rattle.track.specs.declared.Standing.TheVariants.{Waiting, Read, Lost}
-use Rattle.reading.specs.Refusals.{ruling_of, number_in}
-use Rattle.reading.specs.declared.Answer.TheVariants.{Block, Refused}
-use Rattle.reading.specs.declared.Outcome.{Outcome}
+use Rattle.reading.specs.Refusals.{Answer, ruling_of, number_in}
+
+-- what a call leaves of the state, and its answer
+pub record Outcome : Type 0 where
+  pub state : Reader
+  pub answer : Answer
+
+abbrev pub outcome : Reader → Answer → Outcome
+outcome state answer = record { state = state; answer = answer }
 
 -- the streams handed out by the mode at entry; buffers zero where the block is lost or its place unknown (DECISIONS R24)
 abbrev pub handed_by : Standing → Mode → List ℕ → Buffers
@@ -24,14 +28,14 @@ handed_by Lost m line = zeroed
 
 -- where a row refuses, the state comes back as given and nothing lent changes
 abbrev pub outcome_by : Ruling → Reader → List ℕ → Outcome
-outcome_by (Refuse r) s line = record { state = s; answer = Refused r }
-outcome_by Accept s line =
+outcome_by (Err r) s line = record { state = s; answer = Err r }
+outcome_by (Ok u) s line =
     let stepped = step_of s (signs_of line) in
-    record { state = stepped.state; answer = Block stepped.report }
+    record { state = stepped.state; answer = Ok stepped.report }
 
 abbrev pub filled_by : Ruling → Reader → List ℕ → Buffers → Buffers
-filled_by (Refuse r) s line b = b
-filled_by Accept s line b = handed_by (step_of s (signs_of line)).report.standing s.mode line
+filled_by (Err r) s line b = b
+filled_by (Ok u) s line b = handed_by (step_of s (signs_of line)).report.standing s.mode line
 
 abbrev pub ruled : Reader → List ℕ → Buffers → Ruling
 ruled s line b = ruling_of s (length line) (lengths b)

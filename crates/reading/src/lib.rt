@@ -1,4 +1,4 @@
-// The reader's step: state and block in; the next state and the answer out; voice and data handed out into the lent buffers (document
+// The reader's step: a lent state and a block in; the state moved on and the answer out; voice and data handed out into the lent buffers (document
 // 01, 'Reading a block' and 'Refusal numbers').
 #![tactic(auto)]
 
@@ -6,33 +6,33 @@ ghost use Rattle.std.specs.Prelude.{◌≡◌, true, length};
 ghost use Rattle.buffers.specs.Buffers.{each, lengths};
 ghost use Rattle.buffers.specs.Lengths.{fitting};
 ghost use Rattle.reading.specs.Refusals.{ruling_of};
-ghost use Rattle.reading.specs.Step.{handed_by, look_of, Told};
+ghost use Rattle.reading.specs.Step.{outcome, outcome_by, handed_by, look_of, Told};
 
 use modes::Mode;
 use reader::Reader;
-use refusals::{Refusal, Ruling};
+use refusals::Refusal;
 use track::{Report, Standing};
 
-#[derive(Clone, Copy)]
-pub enum Answer {
-    Block(Report),
-    Refused(Refusal),
-}
-
-// A struct and not an enum, since the state is to hold more than an enum may.
-#[derive(Clone, Copy)]
-pub struct Outcome {
-    pub state: Reader,
-    pub answer: Answer,
-}
-
-// The rows of a call with a block and buffers of these lengths, in their order.
-fn ruling_of(s: Reader, line: usize, voice: usize, lsd: usize) -> Ruling
+// The ruling of a call with a block and buffers of these lengths: its rows, in their order.
+#[tactic(auto, unfolding(crate::specs::Refusals::ruling_of))]
+fn ruling_of(s: Reader, line: usize, voice: usize, lsd: usize) -> Result<(), Refusal>
     ensures { result ≡ ruling_of s line (each voice lsd) }
 {
-    let one = refusals::judge(Ruling::Accept, Refusal::BadState, !reader::in_range(s));
-    let two = buffers::judge_line(one, line);
-    buffers::judge_streams(two, voice, lsd)
+    let [voice_length, lsd_length] = buffers::stream_rows(voice, lsd);
+    refusals::first_given(&[
+        Refusal::BadState.row(!s.is_in_range()),
+        buffers::line_row(line),
+        voice_length,
+        lsd_length,
+    ])
+}
+
+// The state and the answer of a call with buffers of these lengths.
+fn take(state: &mut Reader, line: &[u8], voice: usize, lsd: usize) -> Result<Report, Refusal>
+    ensures { outcome state.new result ≡ outcome_by (ruling_of state.old (length line.now) (each voice lsd)) state.old line.now }
+{
+    ruling_of(*state, line.len(), voice, lsd)?;
+    Ok(track::step(state, line))
 }
 
 // Voice and data by the mode where the block is read, and zeros where it is not.
@@ -41,63 +41,35 @@ fn hand(standing: Standing, mode: Mode, line: &[u8], voice: &mut [u8], lsd: &mut
     ensures { each voice.new lsd.new ≡ handed_by standing mode line.now }
 {
     match standing {
-        Standing::Waiting => {
-            packing::clear(voice);
-            packing::clear(lsd);
-        }
         Standing::Read => {
             sorter::hand_out(line, mode, voice, lsd);
         }
-        Standing::Lost => {
-            packing::clear(voice);
-            packing::clear(lsd);
+        Standing::Waiting | Standing::Lost => {
+            voice.fill(0);
+            lsd.fill(0);
         }
     }
 }
 
-// One block: its voice and data go into the lent buffers, or the call is refused and changes nothing.
-pub fn read(state: Reader, line: &[u8], voice: &mut [u8], lsd: &mut [u8]) -> Outcome
-    ensures { Told state line.now (each voice.old lsd.old) result (each voice.new lsd.new) }
+// One block: the state moves on and its voice and data go into the lent buffers, or the call is refused and changes nothing.
+pub fn read(
+    state: &mut Reader,
+    line: &[u8],
+    voice: &mut [u8],
+    lsd: &mut [u8],
+) -> Result<Report, Refusal>
+    ensures { Told state.old line.now (each voice.old lsd.old) (outcome state.new result) (each voice.new lsd.new) }
 {
     let mode = state.mode;
-    let ruling = ruling_of(state, line.len(), voice.len(), lsd.len());
-    match ruling {
-        Ruling::Refuse(why) => Outcome {
-            state: state,
-            answer: Answer::Refused(why),
-        },
-        Ruling::Accept => {
-            let stepped = track::step(state, line);
-            let next = stepped.state;
-            let report = stepped.report;
-            let standing = report.standing;
-            hand(standing, mode, line, voice, lsd);
-            Outcome {
-                state: next,
-                answer: Answer::Block(report),
-            }
-        }
-    }
+    let report = take(state, line, voice.len(), lsd.len())?;
+    hand(report.standing, mode, line, voice, lsd);
+    Ok(report)
 }
 
 // One block without its streams: the state and the answer of a call whose buffers fit.
-pub fn look(state: Reader, line: &[u8]) -> Outcome
-    ensures { result ≡ look_of state line.now }
+#[tactic(auto, unfolding(crate::specs::Step::look_of))]
+pub fn look(state: &mut Reader, line: &[u8]) -> Result<Report, Refusal>
+    ensures { outcome state.new result ≡ look_of state.old line.now }
 {
-    let ruling = ruling_of(state, line.len(), buffers::VOICE, buffers::LSD);
-    match ruling {
-        Ruling::Refuse(why) => Outcome {
-            state: state,
-            answer: Answer::Refused(why),
-        },
-        Ruling::Accept => {
-            let stepped = track::step(state, line);
-            let next = stepped.state;
-            let report = stepped.report;
-            Outcome {
-                state: next,
-                answer: Answer::Block(report),
-            }
-        }
-    }
+    take(state, line, buffers::VOICE, buffers::LSD)
 }

@@ -10,8 +10,8 @@ use lib.Seq.{length-take-le}
 use borrow.Author.Tests.{ltb-false, le-ltb, not-false}
 use Rattle.bits.proofs.Settled.{settled}
 use Rattle.bits.proofs.BoolLaws.{or_left_false, or_right_false}
-use Rattle.refusals.specs.declared.Ruling.{Ruling}
-use Rattle.refusals.specs.declared.Ruling.TheVariants.{Refuse, Accept}
+use Rattle.std.specs.Prelude.{Ok, Err}
+use Rattle.refusals.specs.Rows.{Ruling}
 use Rattle.refusals.proofs.RowLaws.{none_given}
 use Rattle.buffers.specs.Buffers.{Each, Buffers, lengths}
 use Rattle.buffers.specs.Lengths.{line_octets, stream_octets}
@@ -20,10 +20,9 @@ use Rattle.reader.specs.State.{state_in_range}
 use Rattle.reader.specs.declared.Reader.{Reader}
 use Rattle.track.proofs.RangeLaws.{step_in_range}
 use Rattle.reading.specs.Step as reading
-use Rattle.reading.specs.declared.Outcome.{Outcome}
+use Rattle.reading.specs.Step.{Outcome}
 use Rattle.reading.specs.Refusals as judged
-use Rattle.search.specs.Finding.{search_of}
-use Rattle.search.specs.declared.Found.{Found}
+use Rattle.search.specs.Finding.{Found, search_of}
 use Rattle.search.proofs.PlaceLaws.{found-fits}
 use Rattle.recording.specs.Refusals.{rows, ruling_of}
 use Rattle.recording.specs.Walk.{left_from, block_at, block_read, found_again, answer_here, answer_by, place_by, reader_by, stepped_by, buffers_by, answer_at, step_at, buffers_at, look_at}
@@ -85,13 +84,13 @@ module _ (recording : List ℕ) (place : ℕ) (lost : Bool) (s : Reader) (m : Me
   -- so a step leaves what the reader leaves
   moved_is : (q : Ruling)
       → moved_by (reading.outcome_by q s (block_at recording place)) place lost ≡ stepped_by (answer_by q recording place lost s) recording place lost s
-  moved_is (Refuse r) = refl
-  moved_is Accept = rw (m.here s)
+  moved_is (Err r) = refl
+  moved_is (Ok u) = rw (m.here s)
 
   filled_is : (q : Ruling) (b : Buffers)
       → reading.filled_by q s (block_at recording place) b ≡ buffers_by (answer_by q recording place lost s) recording place s b
-  filled_is (Refuse r) b = refl
-  filled_is Accept b = rw (m.here s)
+  filled_is (Err r) b = refl
+  filled_is (Ok u) b = rw (m.here s)
 
   pub block_looked : (line : List ℕ) (o : Outcome) (r : Stepped) → line ≡ block_at recording place → o ≡ reading.look_of s line
       → r ≡ moved_by o place lost → r ≡ look_at recording place lost s
@@ -111,8 +110,8 @@ module _ (recording : List ℕ) (place : ℕ) (lost : Bool) (s : Reader) (m : Me
 -- ---- a step that meets no block leaves the buffers
 pub untouched : (block : Answer) (left place : ℕ) (recording : List ℕ) (s : Reader) (b : Buffers) (lost few : Bool) (f : Found) → (lost || few) ≡ true
     → b ≡ buffers_by (cond lost (found_again f left) (cond few (End left) block)) recording place s b
-untouched block left place recording s b true few (Found.Place p) e = refl
-untouched block left place recording s b true few (Found.Refused r) e = refl
+untouched block left place recording s b true few (Ok p) e = refl
+untouched block left place recording s b true few (Err r) e = refl
 untouched block left place recording s b false true f e = refl
 untouched block left place recording s b false false f e = let z : ◌≡◌ {A = ℕ} 0 1 = cc in absurd (omega arith)
 
@@ -123,7 +122,7 @@ pub record Goes (all place : ℕ) (s : Reader) (n : Each ℕ) : Type 0 where
   pub small : all ≤ 65536
   pub inside : place ≤ all
 
-pub goes : (all place : ℕ) (s : Reader) (n : Each ℕ) → ruling_of all place s n ≡ Accept → Goes all place s n
+pub goes : (all place : ℕ) (s : Reader) (n : Each ℕ) → ruling_of all place s n ≡ Ok tt → Goes all place s n
 unfolding ruling_of
 goes all place s n e =
     let h = none_given (rows all place s n) e in
@@ -134,7 +133,7 @@ goes all place s n e =
       inside = ltb-false _ _ (or_right_false (ltb 65536 all) (ltb all place) h.1.1.1.0);
     }
 
-pub rules_go : (all place : ℕ) (s : Reader) (n : Each ℕ) → Goes all place s n → ruling_of all place s n ≡ Accept
+pub rules_go : (all place : ℕ) (s : Reader) (n : Each ℕ) → Goes all place s n → ruling_of all place s n ≡ Ok tt
 unfolding ruling_of
 rules_go all place s n g =
     rw (g.range, g.streams, le-ltb 65536 all g.small, le-ltb all place g.inside)
@@ -145,8 +144,8 @@ off_here all place lost e small = rw (le-ltb 65536 all small) at e
 
 module _ (recording : List ℕ) (place : ℕ) (lost : Bool) (s : Reader) (b : Buffers) (none : meets_none (length recording) place lost ≡ true) where
   off-left : (q : Ruling) → ruling_of (length recording) place s (lengths b) ≡ q → b ≡ buffers_by (answer_by q recording place lost s) recording place s b
-  off-left (Refuse r) e = refl
-  off-left Accept e =
+  off-left (Err r) e = refl
+  off-left (Ok u) e =
       let left = left_from recording place in
       let off = off_here (length recording) place lost none (goes _ _ _ _ e).small in
       untouched (block_read s recording place) left place recording s b lost (ltb left line_octets) (search_of recording place) off
@@ -171,8 +170,8 @@ module _ (recording : List ℕ) (place : ℕ) (s : Reader) where
   -- after the search: at the place found, or where it was
   again_inside : (f : Found) → search_of recording place ≡ f → place ≤ length recording
       → place_by (found_again f (left_from recording place)) place ≤ length recording
-  again_inside (Found.Place p) e h = let f = found-fits recording place p e in omega (arith, f.2)
-  again_inside (Found.Refused why) e h = h
+  again_inside (Ok p) e h = let f = found-fits recording place p e in omega (arith, f.2)
+  again_inside (Err why) e h = h
 
   pub place_inside : (lost : Bool) → place ≤ length recording → place_by (answer_here recording place lost s) place ≤ length recording
   place_inside true h = again_inside (search_of recording place) refl h

@@ -1,11 +1,11 @@
 -- How the code takes a step apart: whether it meets a block, and the reader's answer to that block as the walk tells it. No public contract
 -- speaks of it.
-use Rattle.std.specs.Prelude.{Bool, ◌||◌, List, ℕ, ◌+◌, ◌-◌, ltb, length}
+use Rattle.std.specs.Prelude.{Bool, ◌||◌, List, ℕ, ◌+◌, ◌-◌, ltb, length, Ok, Err}
 use Rattle.buffers.specs.Buffers.{Each}
 use Rattle.buffers.specs.Lengths.{line_octets}
 use Rattle.reader.specs.declared.Reader.{Reader}
-use Rattle.reading.specs.declared.Outcome as told
-use Rattle.reading.specs.declared.Answer as heard
+use Rattle.reading.specs.Refusals as heard
+use Rattle.reading.specs.Step as told
 use Rattle.recording.specs.Refusals.{ruling_of}
 use Rattle.recording.specs.Walk.{answer_by, is_lost, stepped_by}
 use Rattle.recording.specs.declared.Answer.TheVariants.{Block, Refused}
@@ -24,9 +24,9 @@ abbrev pub moved_by : told.Outcome → ℕ → Bool → Stepped
 moved_by o place lost = by o.answer
   where
     by : heard.Answer → Stepped
-    by (heard.TheVariants.Block report) =
+    by (Ok report) =
         record { answer = Block report; reader = o.state; place = place + line_octets; lost = is_lost report }
-    by (heard.TheVariants.Refused why) = record { answer = Refused why; reader = o.state; place = place; lost = lost }
+    by (Err why) = record { answer = Refused why; reader = o.state; place = place; lost = lost }
 
 -- a step with buffers of these lengths, beside what it leaves in them
 abbrev pub ruled_at : List ℕ → ℕ → Bool → Reader → Each ℕ → Stepped

@@ -1,9 +1,9 @@
 -- Document 01, 'Refusal numbers', rows 1, 3, 4 and 9 of a walk's step.
 use Rattle.std.specs.Prelude.{not, ◌||◌, List, [], ◌∷◌, ◌++◌, ℕ, ltb}
 use Rattle.refusals.specs.Numbers.{number_of}
-use Rattle.refusals.specs.Rows.{Row, row, first_given}
+use Rattle.refusals.specs.Rows.{Ruling, row, first_given}
+use Rattle.refusals.specs.declared.Row.{Row}
 use Rattle.refusals.specs.declared.Refusal.TheVariants.{BadState, BadRecording}
-use Rattle.refusals.specs.declared.Ruling.{Ruling}
 use Rattle.buffers.specs.Buffers.{Each}
 use Rattle.buffers.specs.Lengths.{stream_rows}
 use Rattle.reader.specs.State.{state_in_range}

@@ -1,19 +1,16 @@
 -- Document 01, 'Finding alignment': one step of a walk, which keeps a recording, a place in it, and whether the block before was lost.
-use Rattle.std.specs.Prelude.{Bool, true, false, cond, List, ℕ, ◌+◌, ◌-◌, ltb, length, take, drop}
-use Rattle.refusals.specs.declared.Ruling.{Ruling}
-use Rattle.refusals.specs.declared.Ruling.TheVariants.{Refuse, Accept}
+use Rattle.std.specs.Prelude.{Bool, true, false, cond, List, ℕ, ◌+◌, ◌-◌, ltb, length, take, drop, Ok, Err}
+use Rattle.refusals.specs.Rows.{Ruling}
 use Rattle.buffers.specs.Buffers.{Buffers, lengths}
 use Rattle.buffers.specs.Lengths.{line_octets, stream_octets}
 use Rattle.track.specs.Signs.{signs_of}
 use Rattle.track.specs.Step as tracking
 use Rattle.reader.specs.declared.Reader.{Reader}
 use Rattle.track.specs.declared.Report.{Report}
-use Rattle.track.specs.declared.Stepped as tracked
 use Rattle.track.specs.declared.Standing.{Standing}
 use Rattle.track.specs.declared.Standing.TheVariants.{Waiting, Read, Lost}
 use Rattle.reading.specs.Step.{handed_by}
-use Rattle.search.specs.Finding.{search_of}
-use Rattle.search.specs.declared.Found.{Found}
+use Rattle.search.specs.Finding.{Found, search_of}
 use Rattle.recording.specs.Refusals.{ruling_of}
 use Rattle.recording.specs.declared.Answer.{Answer}
 use Rattle.recording.specs.declared.Answer.TheVariants.{Block, Place, End, Refused}
@@ -27,7 +24,7 @@ abbrev pub block_at : List ℕ → ℕ → List ℕ
 block_at recording place = take line_octets (drop place recording)
 
 -- what the reader makes of it
-abbrev pub read_at : Reader → List ℕ → ℕ → tracked.Stepped
+abbrev pub read_at : Reader → List ℕ → ℕ → tracking.Stepped
 read_at s recording place = tracking.step_of s (signs_of (block_at recording place))
 
 abbrev pub block_read : Reader → List ℕ → ℕ → Answer
@@ -36,8 +33,8 @@ block_read s recording place = Block (read_at s recording place).report
 -- after a lost block the next step searches from the octet after it and answers the new place, or "end" and the octets left where that
 -- search is refused (DECISIONS W5, W6)
 abbrev pub found_again : Found → ℕ → Answer
-found_again (Found.Place p) left = Place p
-found_again (Found.Refused r) left = End left
+found_again (Ok p) left = Place p
+found_again (Err r) left = End left
 
 -- else one block a step; with fewer than 160 octets left a step answers "end" and that number
 abbrev pub answer_here : List ℕ → ℕ → Bool → Reader → Answer
@@ -46,8 +43,8 @@ answer_here recording place lost s =
     cond lost (found_again (search_of recording place) left) (cond (ltb left line_octets) (End left) (block_read s recording place))
 
 abbrev pub answer_by : Ruling → List ℕ → ℕ → Bool → Reader → Answer
-answer_by (Refuse r) recording place lost s = Refused r
-answer_by Accept recording place lost s = answer_here recording place lost s
+answer_by (Err r) recording place lost s = Refused r
+answer_by (Ok u) recording place lost s = answer_here recording place lost s
 
 -- a block moves the walk on by its octets; a step that answers a place moves the walk there, "end" moves nothing, nor does a refusal
 abbrev pub place_by : Answer → ℕ → ℕ

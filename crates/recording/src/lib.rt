@@ -4,17 +4,17 @@
 ghost use Rattle.std.specs.Prelude.{◌≡◌, true, ◌≤◌, length};
 ghost use Rattle.buffers.specs.Buffers.{each};
 ghost use Rattle.search.specs.Finding.{search_of};
+ghost use Rattle.reading.specs.Step.{outcome};
 ghost use Rattle.recording.specs.Refusals.{ruling_of};
 ghost use Rattle.recording.specs.Walk.{left_from, found_again, is_lost, answer_here, stepped_by, step_at, buffers_at, look_at};
 ghost use Rattle.recording.specs.Inner.{off_block, meets_none, moved_by, ruled_at};
 
 use reader::Reader;
-use refusals::{Refusal, Ruling};
-use search::Found;
-use track::Report;
+use refusals::Refusal;
+use track::{Report, Standing};
 
 // A block as the reader answers it, the place where alignment was found again, or the end and the octets left.
-#[derive(Clone, Copy)]
+#[derive(Clone, Copy, Debug, PartialEq, Eq)]
 pub enum Answer {
     Block(Report),
     Place(usize),
@@ -23,7 +23,7 @@ pub enum Answer {
 }
 
 // The answer, the reader's state, and where the walk stands: its place, and whether the block before it was lost.
-#[derive(Clone, Copy)]
+#[derive(Clone, Copy, Debug, PartialEq, Eq)]
 pub struct Stepped {
     pub answer: Answer,
     pub reader: Reader,
@@ -31,45 +31,43 @@ pub struct Stepped {
     pub lost: bool,
 }
 
-// The rows of a step at a place of a recording of `all` octets, with buffers of these lengths, in their order.
-fn ruling_of(all: usize, place: usize, s: Reader, voice: usize, lsd: usize) -> Ruling
+// The ruling of a step at a place of a recording of `all` octets, with buffers of these lengths: its rows, in their order.
+#[tactic(auto, unfolding(crate::specs::Refusals::ruling_of))]
+fn ruling_of(all: usize, place: usize, s: Reader, voice: usize, lsd: usize) -> Result<(), Refusal>
     ensures { result ≡ ruling_of all place s (each voice lsd) }
 {
-    let one = refusals::judge(Ruling::Accept, Refusal::BadState, !reader::in_range(s));
-    let four = buffers::judge_streams(one, voice, lsd);
-    refusals::judge(four, Refusal::BadRecording, (65_536 < all) | (all < place))
+    let [voice_length, lsd_length] = buffers::stream_rows(voice, lsd);
+    refusals::first_given(&[
+        Refusal::BadState.row(!s.is_in_range()),
+        voice_length,
+        lsd_length,
+        Refusal::BadRecording.row((65_536 < all) | (all < place)),
+    ])
 }
 
 fn is_lost(report: Report) -> bool
     ensures { result ≡ is_lost report }
 {
-    let standing = report.standing;
-    match standing {
-        track::Standing::Waiting => false,
-        track::Standing::Read => false,
-        track::Standing::Lost => true,
-    }
+    matches!(report.standing, Standing::Lost)
 }
 
 // The walk after the reader's answer to the block at its place: at the block's end, or where it was if the reader refused.
-fn moved_on(outcome: reading::Outcome, place: usize, lost: bool) -> Stepped
+fn moved_on(heard: Result<Report, Refusal>, reader: Reader, place: usize, lost: bool) -> Stepped
     requires { place ≤ 65536 }
-    ensures { result ≡ moved_by outcome place lost }
+    ensures { result ≡ moved_by (outcome reader heard) place lost }
 {
-    let next = outcome.state;
-    let answer = outcome.answer;
-    match answer {
-        reading::Answer::Block(report) => Stepped {
+    match heard {
+        Ok(report) => Stepped {
             answer: Answer::Block(report),
-            reader: next,
+            reader,
             place: place + buffers::LINE,
             lost: is_lost(report),
         },
-        reading::Answer::Refused(why) => Stepped {
+        Err(why) => Stepped {
             answer: Answer::Refused(why),
-            reader: next,
-            place: place,
-            lost: lost,
+            reader,
+            place,
+            lost,
         },
     }
 }
@@ -79,18 +77,17 @@ fn seek(recording: &[u8], place: usize, s: Reader) -> Stepped
     requires { place ≤ length recording.now }
     ensures { result ≡ stepped_by (found_again (search_of recording.now place) (left_from recording.now place)) recording.now place true s }
 {
-    let found = search::search(recording, place);
-    match found {
-        Found::Place(p) => Stepped {
+    match search::search(recording, place) {
+        Ok(p) => Stepped {
             answer: Answer::Place(p),
             reader: s,
             place: p,
             lost: false,
         },
-        Found::Refused(_why) => Stepped {
+        Err(_) => Stepped {
             answer: Answer::End(recording.len() - place),
             reader: s,
-            place: place,
+            place,
             lost: true,
         },
     }
@@ -117,8 +114,8 @@ fn seek_or_end(recording: &[u8], place: usize, lost: bool, s: Reader) -> Stepped
     Stepped {
         answer: Answer::End(recording.len() - place),
         reader: s,
-        place: place,
-        lost: lost,
+        place,
+        lost,
     }
 }
 
@@ -134,15 +131,14 @@ fn off_by_ruling(
     requires { meets_none (length recording.now) place lost ≡ true }
     ensures { result ≡ ruled_at recording.now place lost s (each voice lsd) }
 {
-    let ruling = ruling_of(recording.len(), place, s, voice, lsd);
-    match ruling {
-        Ruling::Refuse(why) => Stepped {
+    match ruling_of(recording.len(), place, s, voice, lsd) {
+        Err(why) => Stepped {
             answer: Answer::Refused(why),
             reader: s,
-            place: place,
-            lost: lost,
+            place,
+            lost,
         },
-        Ruling::Accept => seek_or_end(recording, place, lost, s),
+        Ok(()) => seek_or_end(recording, place, lost, s),
     }
 }
 
@@ -163,8 +159,9 @@ pub fn step(
         return off_by_ruling(recording, place, lost, s, voice.len(), lsd.len());
     }
     let end = place + buffers::LINE;
-    let outcome = reading::read(s, &recording[place..end], voice, lsd);
-    moved_on(outcome, place, lost)
+    let mut reader = s;
+    let heard = reading::read(&mut reader, &recording[place..end], voice, lsd);
+    moved_on(heard, reader, place, lost)
 }
 
 // A step that hands out no voice and no data: the same answer, and the same state, place and loss.
@@ -175,6 +172,7 @@ pub fn look(recording: &[u8], place: usize, lost: bool, s: Reader) -> Stepped
         return off_by_ruling(recording, place, lost, s, buffers::VOICE, buffers::LSD);
     }
     let end = place + buffers::LINE;
-    let outcome = reading::look(s, &recording[place..end]);
-    moved_on(outcome, place, lost)
+    let mut reader = s;
+    let heard = reading::look(&mut reader, &recording[place..end]);
+    moved_on(heard, reader, place, lost)
 }

@@ -1,4 +1,4 @@
--- Rows judged in turn give the first that is given, and its number, which is small.
+-- The number of the first row that is given, which is small; and where none is given.
 use mathlib.Core.Path.{◌≡◌, refl}
 use mathlib.Core.Bool.{Bool, true, false, cond}
 use mathlib.Core.List.{List, [], ◌∷◌}
@@ -7,25 +7,11 @@ use native.Mathlib.Omega.{arith}
 use lib.Dec.{eqb}
 use borrow.Author.Tests.{ne_eqb}
 use Rattle.refusals.specs.Numbers.{number_of}
-use Rattle.refusals.specs.Rows.{Row, first_given, ruling_number, judged, in_turn}
+use Rattle.refusals.specs.Rows.{first_given, ruling_number}
 use Rattle.refusals.specs.declared.Refusal.{Refusal}
 use Rattle.refusals.specs.declared.Refusal.TheVariants.{BadState, LineLength, VoiceLength, LsdLength, NotCarried, ForbiddenItem, AudioWhileMuted, Overlap, BadRecording, NoPlace, NotAPreset}
-use Rattle.refusals.specs.declared.Ruling.TheVariants.{Refuse, Accept}
-
-refused_stays : (first : Refusal) (rows : List Row) → in_turn (Refuse first) rows ≡ Refuse first
-unfolding judged
-refused_stays first [] = refl
-refused_stays first (r ∷ rs) = refused_stays first rs
-
-pub in_turn_is : (rows : List Row) → in_turn Accept rows ≡ first_given rows
-unfolding judged
-in_turn_is [] = refl
-in_turn_is (r ∷ rs) = go r.given (in_turn_is rs)
-  where
-    go : (given : Bool) → in_turn Accept rs ≡ first_given rs
-        → in_turn (cond given (Refuse r.refusal) Accept) rs ≡ cond given (Refuse r.refusal) (first_given rs)
-    go true e = refused_stays r.refusal rs
-    go false e = e
+use Rattle.refusals.specs.declared.Row.{Row}
+use Rattle.std.specs.Prelude.{Ok, Err}
 
 -- the number of the first row that is given, 0 where none is
 abbrev pub first_number : List Row → ℕ
@@ -37,7 +23,7 @@ number_is [] = refl
 number_is (r ∷ rs) = go r.given (number_is rs)
   where
     go : (given : Bool) → ruling_number (first_given rs) ≡ first_number rs
-        → ruling_number (cond given (Refuse r.refusal) (first_given rs)) ≡ cond given (number_of r.refusal) (first_number rs)
+        → ruling_number (cond given (Err r.refusal) (first_given rs)) ≡ cond given (number_of r.refusal) (first_number rs)
     go true e = refl
     go false e = e
 
@@ -63,15 +49,15 @@ abbrev pub NoneGiven : List Row → Type 0
 NoneGiven [] = Unit {0}
 NoneGiven (r ∷ rs) = (r.given ≡ false) × NoneGiven rs
 
-pub none_given : (rows : List Row) → first_given rows ≡ Accept → NoneGiven rows
+pub none_given : (rows : List Row) → first_given rows ≡ Ok tt → NoneGiven rows
 none_given [] e = tt
 none_given (r ∷ rs) e = go r.given refl (none_given rs) e
   where
-    go : (given : Bool) → r.given ≡ given → (first_given rs ≡ Accept → NoneGiven rs)
-        → cond given (Refuse r.refusal) (first_given rs) ≡ Accept → NoneGiven (r ∷ rs)
+    go : (given : Bool) → r.given ≡ given → (first_given rs ≡ Ok tt → NoneGiven rs)
+        → cond given (Err r.refusal) (first_given rs) ≡ Ok tt → NoneGiven (r ∷ rs)
     go true g ih h = let z : ◌≡◌ {A = ℕ} 0 1 = cc in absurd (omega arith)
     go false g ih h = (g, ih h)
 
-pub accepted : (rows : List Row) → NoneGiven rows → first_given rows ≡ Accept
+pub accepted : (rows : List Row) → NoneGiven rows → first_given rows ≡ Ok tt
 accepted [] none = refl
 accepted (r ∷ rs) none = rw none.0 (accepted rs none.1)

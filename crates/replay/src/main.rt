@@ -7,7 +7,7 @@ ghost use Rattle.std.specs.Prelude.{◌≤◌, length};
 
 use numbers::BlockNumber;
 use reader::Reader;
-use reading::{Answer, Outcome};
+use refusals::Refusal;
 use std::io::Read;
 use std::{fmt, io};
 use track::{Report, Standing, Verdict};
@@ -44,17 +44,17 @@ struct Short;
 
 // What a reader made of a block, as it is printed.
 #[derive(Clone, Copy)]
-struct Told(Answer);
+struct Told(Result<Report, Refusal>);
 
 impl fmt::Display for Told {
     fn fmt<W: fmt::Write>(&self, f: &mut fmt::Formatter<W>) -> fmt::Result {
         match self.0 {
-            Answer::Block(report) => {
+            Ok(report) => {
                 let standing = standing_name(report);
                 let verdict = verdict_name(report);
                 write!(f, "{standing} {verdict} {}", Word(report.reading))
             }
-            Answer::Refused(why) => write!(f, "refused {}", refusals::number_of(why)),
+            Err(why) => write!(f, "refused {}", u8::from(why)),
         }
     }
 }
@@ -125,14 +125,15 @@ fn print_state(rt: &impl Print, s: Reader) -> io::Result<()> {
 fn print_block(
     rt: &impl Print,
     k: u64,
-    outcome: Outcome,
+    told: Told,
     voice: &[u8],
     lsd: &[u8],
+    state: Reader,
 ) -> io::Result<()> {
-    println!(rt; "{k} {}", Told(outcome.answer))?;
+    println!(rt; "{k} {told}")?;
     print_stream(rt, "voice", voice)?;
     print_stream(rt, "data", lsd)?;
-    print_state(rt, outcome.state)
+    print_state(rt, state)
 }
 
 // Takes block k of a recording off the collection, and prints it with the state that it leaves.
@@ -140,18 +141,18 @@ fn print_block(
 fn next_block(
     rt: &impl Print,
     input: &mut impl Read,
-    given: Reader,
+    state: &mut Reader,
     k: u64,
-) -> Result<Reader, Short> {
+) -> Result<(), Short> {
     let mut line = [0u8; buffers::LINE];
     let mut voice = [0u8; buffers::VOICE];
     let mut lsd = [0u8; buffers::LSD];
     if intake::fill(input, &mut line) != Ok(buffers::LINE) {
         return Err(Short);
     }
-    let outcome = reading::read(given, &line, &mut voice, &mut lsd);
-    let _ = print_block(rt, k, outcome, &voice, &lsd);
-    Ok(outcome.state)
+    let answer = reading::read(state, &line, &mut voice, &mut lsd);
+    let _ = print_block(rt, k, Told(answer), &voice, &lsd, *state);
+    Ok(())
 }
 
 // Hands every block to one reader, also after a loss: nothing is searched for.
@@ -165,9 +166,9 @@ fn recording_read(
         return Err(Short);
     }
     let _ = println!(rt; "recording {number}: {blocks} blocks");
-    let mut state = reader::fresh();
+    let mut state = Reader::fresh();
     for k in 1..=blocks {
-        state = next_block(rt, input, state, u64::from(k))?;
+        next_block(rt, input, &mut state, u64::from(k))?;
     }
     Ok(())
 }
@@ -194,17 +195,17 @@ fn collection_read(rt: &impl Print, input: &mut impl Read) -> Result<(), Short> 
 
 // The call with its buffers lent whole, or without their last octet where that is its fault.
 fn lent(
-    given: Reader,
+    state: &mut Reader,
     faults: &[Fault],
     line: &[u8; buffers::LINE],
     voice: &mut [u8; buffers::VOICE],
     lsd: &mut [u8; buffers::LSD],
-) -> Outcome {
+) -> Result<Report, Refusal> {
     let line_end = buffers::LINE - usize::from(faults.contains(&Fault::Line));
     let voice_end = buffers::VOICE - usize::from(faults.contains(&Fault::Voice));
     let lsd_end = buffers::LSD - usize::from(faults.contains(&Fault::Lsd));
     reading::read(
-        given,
+        state,
         &line[..line_end],
         &mut voice[..voice_end],
         &mut lsd[..lsd_end],
@@ -217,15 +218,15 @@ fn refused(rt: &impl Print, faults: &[Fault]) -> io::Result<()> {
     let line = [FILLED; buffers::LINE];
     let mut voice = [FILLED; buffers::VOICE];
     let mut lsd = [FILLED; buffers::LSD];
-    let mut given = reader::fresh();
+    let mut given = Reader::fresh();
     if faults.contains(&Fault::State) {
         given.block = BlockNumber(9);
     }
-    let outcome = lent(given, faults, &line, &mut voice, &mut lsd);
-    let untouched = outcome.state == given
-        && voice.iter().chain(&lsd).all(|octet| *octet == FILLED);
+    let mut state = given;
+    let answer = lent(&mut state, faults, &line, &mut voice, &mut lsd);
+    let untouched = state == given && voice.iter().chain(&lsd).all(|octet| *octet == FILLED);
     let touch = if untouched { "untouched" } else { "touched" };
-    println!(rt; "{} {touch}", Told(outcome.answer))
+    println!(rt; "{} {touch}", Told(answer))
 }
 
 fn all_refused(rt: &impl Print) -> io::Result<()> {

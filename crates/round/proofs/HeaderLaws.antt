@@ -12,7 +12,7 @@ use Rattle.bits.specs.Bits.{sc_bit, low_bits, number, xors}
 use Rattle.bits.proofs.BitLaws.{number_fits}
 use Rattle.bas.specs.Words.{word_bits, word_of, line_order}
 use Rattle.bas.specs.Reading.{weight, reading_of}
-use Rattle.bas.specs.declared.Word.TheVariants.{Code}
+use Rattle.std.specs.Prelude.{Some}
 use Rattle.bas.proofs.WordLaws.{length-line, line-back}
 use Rattle.bas.proofs.ReadingLaws.{word_back}
 use Rattle.numbers.specs.Numbers.{even_frame, odd_frame}
@@ -136,5 +136,5 @@ module _ (m : Mode) (h : Header) (mute : Bool) (b : Buffers) where
       ∙ ap (λ (l : List Bool). number (line_order (line_order l))) (sym (word-bits h.code))
       ∙ ap number (line-back (word_of h.code) ∙ word-bits h.code)
 
-  pub code-back : h.code < 256 → reading_of (bas_word line) ≡ Code h.code
+  pub code-back : h.code < 256 → reading_of (bas_word line) ≡ Some h.code
   code-back l = ap reading_of word_line ∙ word_back h.code l

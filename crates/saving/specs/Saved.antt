@@ -1,16 +1,33 @@
 -- Saved forms of a sender and of a reader: their octets in order, and a state back from them. docs/SAVED.md has a row for each form.
-use Rattle.std.specs.Prelude.{Bool, false, cond, ◌||◌, List, [], ◌∷◌, ℕ, eqb, length, get_or}
+use Rattle.std.specs.Prelude.{Bool, false, cond, ◌||◌, List, [], ◌∷◌, ℕ, eqb, length, get_or, Option, Some, None}
 use Rattle.sender.specs.declared.Sender.{Sender}
 use Rattle.reader.specs.declared.Reader.{Reader}
-use Rattle.saving.specs.declared.SenderLoad.{SenderLoad}
-use Rattle.saving.specs.declared.ReaderLoad.{ReaderLoad}
+
+-- ---- what loading leaves: the state, and 1 where the octets were a saved form, 0 where they were none
+pub record Load (State : Type 0) : Type 0 where
+  pub state : State
+  pub answer : ℕ
+
+-- what is no saved form leaves the state as it was
+abbrev pub loaded_over : {State : Type 0} → State → Option State → Load State
+loaded_over was (Some s) = record { state = s; answer = 1 }
+loaded_over was None = record { state = was; answer = 0 }
+
+abbrev pub SenderLoad : Type 0
+SenderLoad = Load Sender
+
+abbrev pub ReaderLoad : Type 0
+ReaderLoad = Load Reader
 
 -- ---- a form is written over a buffer of its own length, and over no other
+abbrev pub fits : List ℕ → List ℕ → Bool
+fits octets buffer = eqb (length buffer) (length octets)
+
 abbrev pub save_answer : List ℕ → List ℕ → ℕ
-save_answer octets buffer = cond (eqb (length buffer) (length octets)) 1 0
+save_answer octets buffer = cond (fits octets buffer) 1 0
 
 abbrev pub saved_over : List ℕ → List ℕ → List ℕ
-saved_over octets buffer = cond (eqb (length buffer) (length octets)) octets buffer
+saved_over octets buffer = cond (fits octets buffer) octets buffer
 
 -- ---- octets are a form by how many they are: `forms` are the lengths that load
 abbrev pub is_form : List ℕ → ℕ → Bool
@@ -42,9 +59,12 @@ sender_in xs =
       remainder = get_or xs 5 0;
     }
 
--- what is no saved form leaves the state as it was
+-- what is no saved form is no state
+abbrev pub sender_of : List ℕ → Option Sender
+sender_of xs = cond (is_form sender_forms (length xs)) (Some (sender_in xs)) None
+
 abbrev pub sender_loaded : Sender → List ℕ → SenderLoad
-sender_loaded s xs = cond (is_form sender_forms (length xs)) (record { state = sender_in xs; answer = 1 }) (record { state = s; answer = 0 })
+sender_loaded s xs = loaded_over s (sender_of xs)
 
 -- ---- a reader: 12 octets
 abbrev pub reader_forms : List ℕ
@@ -87,5 +107,8 @@ reader_in xs =
       remainder = get_or xs 11 0;
     }
 
+abbrev pub reader_of : List ℕ → Option Reader
+reader_of xs = cond (is_form reader_forms (length xs)) (Some (reader_in xs)) None
+
 abbrev pub reader_loaded : Reader → List ℕ → ReaderLoad
-reader_loaded s xs = cond (is_form reader_forms (length xs)) (record { state = reader_in xs; answer = 1 }) (record { state = s; answer = 0 })
+reader_loaded s xs = loaded_over s (reader_of xs)

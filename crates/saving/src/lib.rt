@@ -1,9 +1,12 @@
-// Saved forms of a sender's and a reader's state: octets that a driver keeps and loads again, also with a later version of this library (docs/SAVED.md). A form is known
-// by its length. Every octet of a form is loaded as it is: a state out of range is refused by the calls that are given it.
+// Saved forms of a sender's and a reader's state: octets that a driver keeps and loads again, also
+// with a later version of this library (docs/SAVED.md). A form is known by its length. Every octet
+// of a form is loaded as it is: a state out of range is refused by the calls that are given it.
 #![tactic(auto)]
 
 ghost use Rattle.std.specs.Prelude.{◌≡◌, get_or};
-ghost use Rattle.saving.specs.Saved.{save_answer, saved_over, is_form, sender_forms, sender_saved, sender_kept, sender_in, sender_loaded, reader_forms, reader_saved, reader_kept, reader_loaded, reader_in};
+ghost use Rattle.saving.specs.Saved.{fits, saved_over, is_form};
+ghost use Rattle.saving.specs.Saved.{sender_forms, sender_octets, sender_kept, sender_in, sender_of};
+ghost use Rattle.saving.specs.Saved.{reader_forms, reader_octets, reader_kept, reader_in, reader_of};
 
 use modes::Mode;
 use numbers::BlockNumber;
@@ -11,28 +14,15 @@ use reader::Reader;
 use sender::Sender;
 use slots::Slot;
 
-// The state that is left, and 1 where the octets were a saved form, 0 where they were none and the state is the one given.
-#[derive(Clone, Copy)]
-pub struct SenderLoad {
-    pub state: Sender,
-    pub answer: u8,
-}
-
-#[derive(Clone, Copy)]
-pub struct ReaderLoad {
-    pub state: Reader,
-    pub answer: u8,
-}
-
-// Writes a form over the buffer where it has the form's length: 1, else 0.
-pub fn save(octets: &[u8], saved: &mut [u8]) -> u8
-    ensures { (result ≡ save_answer octets.now saved.old) × (saved.new ≡ saved_over octets.now saved.old) }
+// Writes a form over the buffer where it has the form's length, and says whether it has.
+pub fn save(octets: &[u8], saved: &mut [u8]) -> bool
+    ensures { (result ≡ fits octets.now saved.old) × (saved.new ≡ saved_over octets.now saved.old) }
 {
-    if saved.len() == octets.len() {
-        let _end = text::put_all(saved, 0, octets);
-        return 1;
+    let fits = saved.len() == octets.len();
+    if fits {
+        saved.copy_from_slice(octets);
     }
-    0
+    fits
 }
 
 // Whether so many octets are a saved sender.
@@ -53,60 +43,59 @@ pub fn is_reader_form(octets: usize) -> bool
 pub fn octet_of(saved: &[u8], at: usize) -> u8
     ensures { result ≡ get_or saved.now at 0 }
 {
-    if at < saved.len() { saved[at] } else { 0 }
+    saved.get(at).copied().unwrap_or(0)
 }
 
-pub fn save_sender(state: Sender, saved: &mut [u8]) -> u8
-    ensures { (result ≡ sender_saved state saved.old) × (saved.new ≡ sender_kept state saved.old) }
+// The octets of a saved sender, in order.
+fn sender_octets(state: Sender) -> [u8; 6]
+    ensures { result ≡ sender_octets state }
 {
-    let octets = [
+    [
         state.chosen,
         state.mode.audio,
         state.mode.lsd,
         state.block.0,
         state.due,
         state.remainder,
-    ];
-    save(&octets, saved)
+    ]
+}
+
+// One for each state, and no trait: a trait would have these functions and say no more in common.
+pub fn save_sender(state: Sender, saved: &mut [u8]) -> bool
+    ensures { (result ≡ fits (sender_octets state) saved.old)
+        × (saved.new ≡ sender_kept state saved.old) }
+{
+    save(&sender_octets(state), saved)
 }
 
 // The sender of a saved sender.
 fn sender_from(saved: &[u8]) -> Sender
     ensures { result ≡ sender_in saved.now }
 {
-    let mode = Mode {
-        audio: octet_of(saved, 1),
-        lsd: octet_of(saved, 2),
-    };
     Sender {
         chosen: octet_of(saved, 0),
-        mode: mode,
+        mode: Mode {
+            audio: octet_of(saved, 1),
+            lsd: octet_of(saved, 2),
+        },
         block: BlockNumber(octet_of(saved, 3)),
         due: octet_of(saved, 4),
         remainder: octet_of(saved, 5),
     }
 }
 
-pub fn load_sender(state: Sender, saved: &[u8]) -> SenderLoad
-    ensures { result ≡ sender_loaded state saved.now }
+// None where the octets are no saved sender.
+pub fn load_sender(saved: &[u8]) -> Option<Sender>
+    ensures { result ≡ sender_of saved.now }
 {
-    if is_sender_form(saved.len()) {
-        let loaded = sender_from(saved);
-        return SenderLoad {
-            state: loaded,
-            answer: 1,
-        };
-    }
-    SenderLoad {
-        state: state,
-        answer: 0,
-    }
+    is_sender_form(saved.len()).then(|| sender_from(saved))
 }
 
-pub fn save_reader(state: Reader, saved: &mut [u8]) -> u8
-    ensures { (result ≡ reader_saved state saved.old) × (saved.new ≡ reader_kept state saved.old) }
+// The octets of a saved reader, in order.
+pub fn reader_octets(state: Reader) -> [u8; 12]
+    ensures { result ≡ reader_octets state }
 {
-    let octets = [
+    [
         state.mode.audio,
         state.mode.lsd,
         state.kept.audio,
@@ -119,51 +108,45 @@ pub fn save_reader(state: Reader, saved: &mut [u8]) -> u8
         state.slot.words,
         state.before,
         state.remainder,
-    ];
-    save(&octets, saved)
+    ]
+}
+
+pub fn save_reader(state: Reader, saved: &mut [u8]) -> bool
+    ensures { (result ≡ fits (reader_octets state) saved.old)
+        × (saved.new ≡ reader_kept state saved.old) }
+{
+    save(&reader_octets(state), saved)
 }
 
 // The reader of a saved reader, or of what a saved walk begins with.
 pub fn reader_from(saved: &[u8]) -> Reader
     ensures { result ≡ reader_in saved.now }
 {
-    let mode = Mode {
-        audio: octet_of(saved, 0),
-        lsd: octet_of(saved, 1),
-    };
-    let kept = Mode {
-        audio: octet_of(saved, 2),
-        lsd: octet_of(saved, 3),
-    };
-    let slot = Slot {
-        kind: octet_of(saved, 8),
-        words: octet_of(saved, 9),
-    };
     Reader {
-        mode: mode,
-        kept: kept,
+        mode: Mode {
+            audio: octet_of(saved, 0),
+            lsd: octet_of(saved, 1),
+        },
+        kept: Mode {
+            audio: octet_of(saved, 2),
+            lsd: octet_of(saved, 3),
+        },
         wrong: octet_of(saved, 4),
         block: BlockNumber(octet_of(saved, 5)),
         firsts: octet_of(saved, 6),
         misses: octet_of(saved, 7),
-        slot: slot,
+        slot: Slot {
+            kind: octet_of(saved, 8),
+            words: octet_of(saved, 9),
+        },
         before: octet_of(saved, 10),
         remainder: octet_of(saved, 11),
     }
 }
 
-pub fn load_reader(state: Reader, saved: &[u8]) -> ReaderLoad
-    ensures { result ≡ reader_loaded state saved.now }
+// None where the octets are no saved reader.
+pub fn load_reader(saved: &[u8]) -> Option<Reader>
+    ensures { result ≡ reader_of saved.now }
 {
-    if is_reader_form(saved.len()) {
-        let loaded = reader_from(saved);
-        return ReaderLoad {
-            state: loaded,
-            answer: 1,
-        };
-    }
-    ReaderLoad {
-        state: state,
-        answer: 0,
-    }
+    is_reader_form(saved.len()).then(|| reader_from(saved))
 }

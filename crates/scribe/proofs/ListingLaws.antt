@@ -15,10 +15,10 @@ use Rattle.text.proofs.OverLaws.{written_none, written_then, written-length}
 use Rattle.reader.specs.State.{state_in_range}
 use Rattle.reader.specs.declared.Reader.{Reader}
 use Rattle.reader.proofs.StateLaws.{fresh_in_range}
-use Rattle.search.specs.Finding.{search_of}
+use Rattle.search.specs.Finding.{Found, search_of}
 use Rattle.refusals.specs.Numbers.{number_of}
 use Rattle.refusals.proofs.RowLaws.{number-within}
-use Rattle.search.specs.declared.Found.{Found}
+use Rattle.std.specs.Prelude.{Ok, Err}
 use Rattle.search.proofs.PlaceLaws.{found-fits, found-small}
 use Rattle.recording.specs.Walk.{left_from, read_at, block_read, found_again, answer_here, is_lost, place_by, lost_by, reader_by, stepped_by}
 use Rattle.recording.specs.declared.Answer.{Answer}
@@ -144,10 +144,10 @@ module _ (recording : List ℕ) (n : ℕ) (shorter : Enough recording n) (place 
       Ends (line_text a count ++ cond (is_last a) [] (lines_from n recording (place_by a place) (lost_by a lost) (reader_by a recording place s) (count_after a count)))
 
   found-ends : length recording + 80 ≤ place + 80 * n → (f : Found) → search_of recording place ≡ f → Rest true (found_again f (left_from recording place))
-  found-ends k (Found.Place p) e =
+  found-ends k (Ok p) e =
       let f = found-fits recording place p e in
       ends-after (number_line "found " p) _ (shorter p false s count (omega (arith, f.2)) (omega (arith, f.1)))
-  found-ends k (Found.Refused why) e = left-ends (left_from recording place)
+  found-ends k (Err why) e = left-ends (left_from recording place)
 
   block-ends : length recording ≤ place + 80 * n → (b : Bool) → ltb (left_from recording place) line_octets ≡ b
       → Rest false (cond b (End (left_from recording place)) (block_read s recording place))
@@ -165,7 +165,7 @@ enough recording (suc n) place true s count h k =
 enough recording (suc n) place false s count h k =
     block-ends recording n (enough recording n) place s count h (omega arith) (ltb (left_from recording place) line_octets) refl
 
-pub listing-ends : (recording : List ℕ) (p : ℕ) → search_of recording 0 ≡ Found.Place p → Ends (listing_of recording)
+pub listing-ends : (recording : List ℕ) (p : ℕ) → search_of recording 0 ≡ Ok p → Ends (listing_of recording)
 unfolding listing_of
 listing-ends recording p e =
     let f = found-fits recording 0 p e in
@@ -189,12 +189,12 @@ module _ (recording : List ℕ) (small : length recording ≤ 65536) (n : ℕ) (
 
   found-short : (f : Found) → search_of recording place ≡ f
       → 5 * Taken true (found_again f (left_from recording place)) + place ≤ length recording + 60 * digit true + 60
-  found-short (Found.Place p) e =
+  found-short (Ok p) e =
       let f = found-fits recording place p e in
       let rest = shorter p false s count (omega (arith, f.2)) (omega (arith, f.1)) in
       rw (length-append (number_line "found " p) (lines_from n recording p false s count))
       (omega (arith, number-length "found " 6 p words_length.0 (omega (arith, f.2)), rest, f.1))
-  found-short (Found.Refused why) e = omega (arith, end_short)
+  found-short (Err why) e = omega (arith, end_short)
 
   block-short : (b : Bool) → ltb (left_from recording place) line_octets ≡ b
       → 5 * Taken false (cond b (End (left_from recording place)) (block_read s recording place)) + place ≤ length recording + 60 * digit false + 60
@@ -220,12 +220,12 @@ unfolding listing_of
 listing-fits recording = go (search_of recording 0) refl
   where
     go : (f : Found) → search_of recording 0 ≡ f → length (listing_by f recording) ≤ 16384
-    go (Found.Place p) e =
+    go (Ok p) e =
         let f = found-fits recording 0 p e in
         let small = found-small recording 0 p e in
         rw (length-append (number_line "found " p) (lines_from (length recording) recording p false begun 0))
         (omega (arith, number-length "found " 6 p words_length.0 (omega (arith, f.2)), small, short recording small (length recording) p false begun 0 (omega (arith, f.2)) (omega arith)))
-    go (Found.Refused why) e = omega (arith, number-length "none " 5 (number_of why) words_length.2 (omega (arith, (number-within why).1)))
+    go (Err why) e = omega (arith, number-length "none " 5 (number_of why) words_length.2 (omega (arith, (number-within why).1)))
 
 pub listed-fits : {r : ℕ} {was text : List ℕ} (recording : List ℕ) → Written 0 (listing_of recording) was r text → 16384 ≤ length was → r ≤ length text
 listed-fits recording w room = omega (arith, w.place, listing-fits recording, written-length w)

@@ -1,10 +1,10 @@
 -- Document 01, 'Figures to check against': what the listing program writes.
-use Rattle.std.specs.Prelude.{Bool, true, false, cond, List, [], ◌++◌, ℕ, zero, suc, ◌+◌, length}
+use Rattle.std.specs.Prelude.{Bool, true, false, cond, List, [], ◌++◌, ℕ, zero, suc, ◌+◌, length, Ok, Err}
 use Rattle.modes.specs.Modes.{off}
 use Rattle.reader.specs.State.{fresh_in}
 use Rattle.reader.specs.declared.Reader.{Reader}
 use Rattle.search.specs.Finding as finding
-use Rattle.search.specs.declared.Found.{Found}
+use Rattle.search.specs.Finding.{Found}
 use Rattle.refusals.specs.Numbers.{number_of}
 use Rattle.recording.specs.Walk.{answer_here, reader_by, place_by, lost_by}
 use Rattle.recording.specs.declared.Answer.{Answer}
@@ -38,8 +38,8 @@ begun = fresh_in off
 
 -- line 1 is "found" and the place, or "none" and the refusal number, and then nothing more
 abbrev pub listing_by : Found → List ℕ → List ℕ
-listing_by (Found.Place p) recording = number_line "found " p ++ lines_from (length recording) recording p false begun 0
-listing_by (Found.Refused why) recording = number_line "none " (number_of why)
+listing_by (Ok p) recording = number_line "found " p ++ lines_from (length recording) recording p false begun 0
+listing_by (Err why) recording = number_line "none " (number_of why)
 
 unfoldable pub listing_of : List ℕ → List ℕ
 listing_of recording = listing_by (finding.search_of recording 0) recording

@@ -4,22 +4,18 @@
 ghost use Rattle.std.specs.Prelude.{◌≡◌, true, false, ◌+◌, ◌<◌, ◌≤◌, length};
 ghost use Rattle.reader.specs.State.{state_in_range};
 ghost use Rattle.text.specs.Over.{Written};
+ghost use Rattle.text.specs.Pages.{Wrote};
 ghost use Rattle.recording.specs.Walk.{answer_here, stepped_by};
 ghost use Rattle.scribe.specs.Listing.{is_last, count_after, lines_from, begun, listing_of};
 
 use reader::Reader;
 use recording::{Answer, Stepped};
-use search::Found;
+use text::Page;
 
 fn is_last(answer: Answer) -> bool
     ensures { result ≡ is_last answer }
 {
-    match answer {
-        Answer::Block(_report) => false,
-        Answer::Place(_p) => false,
-        Answer::End(_left) => true,
-        Answer::Refused(_why) => true,
-    }
+    matches!(answer, Answer::End(_) | Answer::Refused(_))
 }
 
 // The count of blocks goes over the whole listing.
@@ -28,10 +24,8 @@ fn count_after(answer: Answer, count: usize) -> usize
     ensures { result ≡ count_after answer count }
 {
     match answer {
-        Answer::Block(_report) => count + 1,
-        Answer::Place(_p) => count,
-        Answer::End(_left) => count,
-        Answer::Refused(_why) => count,
+        Answer::Block(_) => count + 1,
+        Answer::Place(_) | Answer::End(_) | Answer::Refused(_) => count,
     }
 }
 
@@ -44,28 +38,40 @@ fn step_on(recording: &[u8], place: usize, lost: bool, s: Reader) -> Stepped
 }
 
 // The lines of a walk from a place on. A recording has more octets than a walk over it has steps.
-fn put_walk(text: &mut [u8], at: usize, recording: &[u8], start: usize) -> usize
-    requires { (length recording.now ≤ 65536) × (start ≤ length recording.now) × (at ≤ length text.old + 1) }
-    ensures { Written at (lines_from (length recording.now) recording.now start false begun 0) text.old result text.new }
+fn put_walk(page: &mut Page, recording: &[u8], start: usize)
+    requires { (length recording.now ≤ 65536) × (start ≤ length recording.now) × (page.old.place ≤ length page.old.octets.now + 1) }
+    ensures { Wrote page.old (lines_from (length recording.now) recording.now start false begun 0) page.new }
 {
-    let mut a = at;
     let mut place = start;
     let mut lost = false;
-    let mut s = reader::fresh();
+    let mut s = Reader::fresh();
     let mut count = 0;
     for turn in 0..recording.len() {
         let stepped = step_on(recording, place, lost, s);
         let answer = stepped.answer;
-        a = wording::put_answer(text, a, count, answer);
+        wording::put_answer(page, count, answer);
         if is_last(answer) {
-            return a;
+            return;
         }
         count = count_after(answer, count);
         place = stepped.place;
         lost = stepped.lost;
         s = stepped.reader;
     }
-    a
+}
+
+// The listing of a recording, as far as it fits.
+#[tactic(auto, unfolding(text::specs::Words::text_of, crate::specs::Listing::listing_of))]
+fn put_listing(page: &mut Page, recording: &[u8])
+    ensures { Wrote page.old (listing_of recording.now) page.new }
+{
+    match search::search(recording, 0) {
+        Ok(p) => {
+            wording::put_line(page, b"found ", p);
+            put_walk(page, recording, p);
+        }
+        Err(why) => wording::put_line(page, b"none ", usize::from(u8::from(why))),
+    }
 }
 
 // The listing of a recording, written into the buffer as far as it fits. The answer is its length, and one more than the buffer has
@@ -73,17 +79,7 @@ fn put_walk(text: &mut [u8], at: usize, recording: &[u8], start: usize) -> usize
 pub fn list(recording: &[u8], text: &mut [u8]) -> usize
     ensures { Written 0 (listing_of recording.now) text.old result text.new }
 {
-    let found = search::search(recording, 0);
-    match found {
-        Found::Place(p) => {
-            let at = wording::put_line(text, 0, b"found ", p);
-            put_walk(text, at, recording, p)
-        }
-        Found::Refused(why) => wording::put_line(
-            text,
-            0,
-            b"none ",
-            refusals::number_of(why) as usize,
-        ),
-    }
+    let mut page = Page::new(text);
+    put_listing(&mut page, recording);
+    page.end()
 }

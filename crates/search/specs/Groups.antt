@@ -1,8 +1,7 @@
 -- How the search tests many places together. The contracts of inner functions speak of it; those of public ones do not.
 use Rattle.std.specs.Prelude.{◌≡◌, Bool, true, not, ◌&&◌, List, map, ℕ, zero, suc, ◌+◌, ◌-◌, ◌*◌, ◌/◌, ◌^◌, ◌<◌, length, get_or, drop}
 use Rattle.bits.specs.Bits.{odd, sc_bit}
-use Rattle.search.specs.Finding.{aligned, first_of}
-use Rattle.search.specs.declared.Found.{Found}
+use Rattle.search.specs.Finding.{Found, aligned, first_of}
 
 -- alignment stands at none of the first n places
 unfoldable pub none_of : ℕ → List ℕ → Bool

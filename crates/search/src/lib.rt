@@ -8,13 +8,6 @@ ghost use Rattle.search.specs.Groups.{plane, EachBit, Folded, none_of, first_fro
 
 use refusals::Refusal;
 
-// A place is an octet of the whole recording, counted from 0.
-#[derive(Clone, Copy)]
-pub enum Found {
-    Place(usize),
-    Refused(Refusal),
-}
-
 // Where the seven octets from an offset on do not spell 0011011, each of their eight bits by itself: bit 0 is SC.
 fn wrong_word(part: &[u8], at: usize) -> u8
     requires { at + 7 ≤ length part.now }
@@ -123,16 +116,6 @@ fn none_of_group(part: &[u8], places: usize) -> bool
     none_of(part, places) % 2 == 1
 }
 
-// How many octets of a recording stand from the start on: none where the start is past the end.
-fn octets_from(all: usize, start: usize) -> usize
-    ensures { result ≡ all - start }
-{
-    if start < all {
-        return all - start;
-    }
-    0
-}
-
 // Where the search goes on after at most `groups` groups of `places` places: as far as they are whole and without alignment.
 fn after_groups(recording: &[u8], start: usize, places: usize, groups: usize) -> usize
     requires { places ≤ 2048 }
@@ -141,7 +124,7 @@ fn after_groups(recording: &[u8], start: usize, places: usize, groups: usize) ->
     let all = recording.len();
     let mut at = start;
     for k in 0..groups {
-        if octets_from(all, at) < places + 168 {
+        if all.saturating_sub(at) < places + 168 {
             return at;
         }
         if !none_of_group(&recording[at..], places) {
@@ -180,7 +163,7 @@ fn after_all_groups(recording: &[u8], start: usize) -> usize
     ensures { first_from result recording.now ≡ first_from start recording.now }
 {
     let near = after_groups(recording, start, 64, 4);
-    if octets_from(near, start) < 256 {
+    if near.saturating_sub(start) < 256 {
         return near;
     }
     let far = after_groups(recording, near, 2048, 32);
@@ -190,25 +173,26 @@ fn after_all_groups(recording: &[u8], start: usize) -> usize
 
 // The smallest place from a given one on where alignment stands, by the test of one place after the other, as far as 168 octets are left
 // (DECISIONS F39).
-fn first_from(recording: &[u8], from: usize) -> Found
+fn first_from(recording: &[u8], from: usize) -> Result<usize, Refusal>
     ensures { result ≡ first_from from recording.now }
 {
-    let end = octets_from(recording.len(), 167);
+    let end = recording.len().saturating_sub(167);
     for at in from..end {
         if is_aligned(&recording[at..]) {
-            return Found::Place(at);
+            return Ok(at);
         }
     }
-    Found::Refused(Refusal::NoPlace)
+    Err(Refusal::NoPlace)
 }
 
-// The smallest place from the start on where alignment stands. Any start and any length may be given.
-pub fn search(recording: &[u8], start: usize) -> Found
+// The smallest place from the start on where alignment stands: an octet of the whole recording, counted from 0. Any start and any length
+// may be given.
+pub fn search(recording: &[u8], start: usize) -> Result<usize, Refusal>
     ensures { result ≡ search_of recording.now start }
 {
     let all = recording.len();
-    if (65_536 < all) | (octets_from(all, start) < 168) {
-        return Found::Refused(Refusal::BadRecording);
+    if (65_536 < all) | (all.saturating_sub(start) < 168) {
+        return Err(Refusal::BadRecording);
     }
     first_from(recording, after_all_groups(recording, start))
 }

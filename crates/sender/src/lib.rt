@@ -3,15 +3,16 @@
 
 ghost use Rattle.std.specs.Prelude.{◌≡◌};
 ghost use Rattle.modes.specs.Modes.{audio_off};
-ghost use Rattle.sender.specs.State.{chosen_mode, state_in_range, fresh_with};
+ghost use Rattle.sender.specs.State.{word_due, chosen_mode, state_in_range, fresh_with};
 
-use modes::Mode;
+use modes::{AUDIO_OFF, Mode};
 use numbers::BlockNumber;
+use slots::Due;
 
 // What a sender keeps between blocks, laid out as in C for a card driver. The chosen audio stands apart from the audio in force; `due` is
-// 0, or an item is due (DECISIONS F46).
+// 0, or an item is due (DECISIONS F46): a number and no enum, for a state crosses to C as it stands.
 #[repr(C)]
-#[derive(Clone, Copy, PartialEq, Eq)]
+#[derive(Clone, Copy, Debug, PartialEq, Eq)]
 pub struct Sender {
     pub chosen: u8,
     pub mode: Mode,
@@ -20,46 +21,53 @@ pub struct Sender {
     pub remainder: u8,
 }
 
-// The mode that is chosen: that in force, with the chosen audio.
-pub fn chosen_mode(s: Sender) -> Mode
-    ensures { result ≡ chosen_mode s }
-{
-    let mode = s.mode;
-    modes::with_audio(mode, s.chosen)
-}
-
-// Whether a state is in range.
-pub fn in_range(s: Sender) -> bool
-    ensures { result ≡ state_in_range s }
-{
-    let chosen = s.chosen;
-    let audio = s.mode.audio;
-    let block = s.block.0;
-    let remainder = s.remainder;
-    modes::in_range(chosen_mode(s))
-        & ((audio == 31) | (audio == chosen))
-        & ((1 <= block) & (block <= 8))
-        & (remainder <= 15)
-}
-
-// The state that a session starts in, but for the chosen audio.
-pub fn fresh_with(audio: u8) -> Sender
-    ensures { result ≡ fresh_with audio }
-{
-    let mode = modes::off();
-    let block = BlockNumber(1);
-    Sender {
-        chosen: audio,
-        mode: mode,
-        block: block,
-        due: 0,
-        remainder: 0,
+impl Sender {
+    // The state that a session starts in, but for the chosen audio.
+    pub fn fresh_with(audio: u8) -> Sender
+        ensures { result ≡ fresh_with audio }
+    {
+        Sender {
+            chosen: audio,
+            mode: Mode::off(),
+            block: BlockNumber(1),
+            due: 0,
+            remainder: 0,
+        }
     }
-}
 
-// The state that a session starts in.
-pub fn fresh() -> Sender
-    ensures { result ≡ fresh_with audio_off }
-{
-    fresh_with(31)
+    // The state that a session starts in.
+    pub fn fresh() -> Sender
+        ensures { result ≡ fresh_with audio_off }
+    {
+        Sender::fresh_with(AUDIO_OFF)
+    }
+
+    // The word that is due. A sender opens no message.
+    pub fn word_due(self) -> Due
+        ensures { result ≡ word_due self }
+    {
+        if self.due == 0 {
+            Due::Plain
+        } else {
+            Due::AnItem
+        }
+    }
+
+    // The mode that is chosen: that in force, with the chosen audio.
+    pub fn chosen_mode(self) -> Mode
+        ensures { result ≡ chosen_mode self }
+    {
+        self.mode.with_audio(self.chosen)
+    }
+
+    // Whether the state is in range.
+    #[tactic(auto, unfolding(crate::specs::State::state_in_range))]
+    pub fn is_in_range(self) -> bool
+        ensures { result ≡ state_in_range self }
+    {
+        self.chosen_mode().is_in_range()
+            & ((self.mode.audio == AUDIO_OFF) | (self.mode.audio == self.chosen))
+            & (1..=8).contains(&self.block.0)
+            & (self.remainder <= 15)
+    }
 }

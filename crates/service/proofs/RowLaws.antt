@@ -1,77 +1,63 @@
 -- Laws of eight octets' SC bits that are gathered at once: of eight octets as one number each lowest bit comes down to the lowest octet.
-use mathlib.Core.Path.{◌≡◌, refl, sym, ap, ap₂, ◌∙◌}
-use mathlib.Core.Bool.{Bool, ◌&&◌, ◌||◌, or-false}
-use mathlib.Core.List.{List, [], ◌∷◌}
-use Prim.Native.Nat.{ℕ, zero, suc, ◌+◌, ◌*◌, ◌/◌, ◌%◌, ◌^◌}
-use native.Mathlib.Nat.{add-zero}
+use mathlib.Core.Path.{◌≡◌, sym, ap, ap₂, ◌∙◌}
+use mathlib.Core.List.{List}
+use Prim.Native.Nat.{ℕ, zero, suc, ◌+◌, ◌*◌, ◌/◌, ◌-◌, ◌%◌, ◌^◌, ◌≤◌, ◌<◌, min}
+use native.Mathlib.Nat.{add-zero, add_assoc}
 use native.Mathlib.Omega.{arith}
-use lib.Bits.{bit_and, bit_or, and_comm}
-use lib.Dec.{eqb}
-use lib.ListN.{get_or}
-use lib.Pow.{shr-shr, high}
-use Rattle.bits.specs.Bits.{odd, low_bits, sc_bit, number, number_at, eight_at}
-use Rattle.bits.proofs.BitLaws.{bit-or, bit-and, number-low_bits, sc_is}
-use Rattle.bits.proofs.EightLaws.{number_at-lt, number_parts}
+use lib.Bits.{bit_and, and_comm, and_zero_l, and_block, and_mask}
+use lib.ListN.{length, get_or, take, drop, length-drop}
+use lib.Seq.{take_all, get_or-take, get_or-drop}
+use lib.Pow.{split}
+use Rattle.std.specs.Int.{from_le_bytes, w64}
+use Rattle.bits.specs.Bits.{number}
+use Rattle.bits.proofs.BitLaws.{digit-odd, sc_is}
 use Rattle.service.specs.Channel.{channel_bits}
 
--- ---- the lowest bits of the n low octets of a number, the highest octet's first
-unfoldable pub lowest : ℕ → ℕ → List Bool
-lowest zero x = []
-lowest (suc n) x = odd (x / 2 ^ (8 * n)) ∷ lowest n x
-
--- the octet that has n others below it
-octet-above : (line : List ℕ) (at i n : ℕ) → odd (number_at line at (suc i + n) / 2 ^ (8 * n)) ≡ sc_bit (get_or line (at + i) 0)
-unfolding odd number_at
-octet-above line at i n =
-    let last : number_at line at (suc i) % 2 ≡ get_or line (at + i) 0 % 2 = omega arith in
-    ap (λ (y : ℕ). odd (y / 2 ^ (8 * n))) (number_parts line at (suc i) n)
-    ∙ ap odd (high (number_at line at (suc i)) (8 * n) (number_at-lt line (at + suc i) n))
-    ∙ ap (λ (r : ℕ). eqb r 1) last ∙ sym (sc_is (get_or line (at + i) 0))
-
-channel_lowest : (line : List ℕ) (at i n : ℕ) → channel_bits n (at + i) line ≡ lowest n (number_at line at (i + n))
-unfolding channel_bits lowest
-channel_lowest line at i zero = refl
-channel_lowest line at i (suc n) =
-    let e : suc i + n ≡ i + suc n = omega arith in
-    let next : at + i + 1 ≡ at + suc i = omega arith in
-    ap₂ ◌∷◌ (sym (octet-above line at i n) ∙ ap (λ (k : ℕ). odd (number_at line at k / 2 ^ (8 * n))) e)
-    (ap (λ (k : ℕ). channel_bits n k line) next ∙ channel_lowest line at (suc i) n ∙ ap (λ (k : ℕ). lowest n (number_at line at k)) e)
-
--- ---- a number laid over itself, k places lower: each bit of it is one of two
-abbrev pub over : ℕ → ℕ → ℕ
-over k x = bit_or x (x / 2 ^ k)
-
-abbrev either : ℕ → (ℕ → Bool) → ℕ → Bool
-either k f j = f j || f (k + j)
-
-odd-over : (k x : ℕ) (f : ℕ → Bool) → ((j : ℕ) → odd (x / 2 ^ j) ≡ f j) → (j : ℕ) → odd (over k x / 2 ^ j) ≡ either k f j
-odd-over k x f h j =
-    bit-or x (x / 2 ^ k) j
-    ∙ ap₂ ◌||◌ (h j) (ap odd (shr-shr x k j) ∙ h (k + j))
-
 -- ---- the lowest bit of each of eight octets
-abbrev pub each : ℕ
-each = 72340172838076673
+units : ℕ → ℕ
+units zero = 0
+units (suc n) = units n * 256 + 1
 
-odd_each : (x j : ℕ) → odd (bit_and x each / 2 ^ j) ≡ (odd (each / 2 ^ j) && odd (x / 2 ^ j))
-odd_each x j =
-    ap (λ (y : ℕ). odd (y / 2 ^ j)) (and_comm x each) ∙ bit-and each x j
+spread : ℕ → ℕ → ℕ
+spread zero x = 0
+spread (suc n) x = spread n (x / 256) * 256 + x % 2
 
--- of the eight that fall on a bit of the lowest octet, one is the lowest bit of its octet
-abbrev pub gathered : ℕ → ℕ
-gathered x = over 28 (over 14 (over 7 (bit_and x each)))
+and-units : (n x : ℕ) → bit_and x (units n) ≡ spread n x
+unfolding units spread
+and-units zero x = and_comm x 0 ∙ and_zero_l x
+and-units (suc n) x =
+    ap (λ (y : ℕ). bit_and y (units n * 256 + 1)) (sym (split x 8))
+    ∙ and_block 8 (x / 256) (units n) (x % 256) 1 (omega arith) (omega arith)
+    ∙ ap₂ (λ (y z : ℕ). y * 256 + z) (and-units n (x / 256)) (and_mask (x % 256) 1 ∙ omega arith)
 
-odd-gathered : (x j : ℕ)
-    → odd (gathered x / 2 ^ j) ≡ either 28 (either 14 (either 7 (λ (i : ℕ). odd (each / 2 ^ i) && odd (x / 2 ^ i)))) j
-odd-gathered x = odd-over 28 _ _ (odd-over 14 _ _ (odd-over 7 _ _ (odd_each x)))
+-- each comes to the highest octet
+come_together : (a b c d e f g h : ℕ) → a < 2 → b < 2 → c < 2 → d < 2 → e < 2 → f < 2 → g < 2 → h < 2
+    → ((((((((h * 256 + g) * 256 + f) * 256 + e) * 256 + d) * 256 + c) * 256 + b) * 256 + a) * 9241421688590303745 % 2 ^ 64) / 2 ^ 56
+    ≡ a * 128 + b * 64 + c * 32 + d * 16 + e * 8 + f * 4 + g * 2 + h
+come_together a b c d e f g h p q r s t u v w = omega arith
 
-gathered-bits : (x : ℕ) → low_bits 8 (gathered x) ≡ lowest 8 x
-unfolding low_bits lowest odd
-gathered-bits x = simp (odd-gathered, or-false)
+-- the SC bits of eight octets at the front of a list, from those octets as a number, the first lowest
+pub row_is : (xs line : List ℕ) (at : ℕ) → ((i : ℕ) → i < 8 → get_or xs i 0 ≡ get_or line (at + i) 0) → ((i : ℕ) → get_or line i 0 < 256)
+    → (bit_and (from_le_bytes w64 xs) 72340172838076673 * 9241421688590303745 % 2 ^ 64) / 2 ^ 56 ≡ number (channel_bits 8 at line)
+unfolding units spread number channel_bits
+row_is xs line at same small =
+    let d : ℕ → ℕ = λ i. get_or line (at + i) 0 % 2 in
+    let m : (i : ℕ) → d i < 2 = λ i. omega arith in
+    let laid : spread 8 (from_le_bytes w64 xs) ≡ ((((((d 7 * 256 + d 6) * 256 + d 5) * 256 + d 4) * 256 + d 3) * 256 + d 2) * 256 + d 1) * 256 + d 0 =
+    rw (same 0 (omega arith), same 1 (omega arith), same 2 (omega arith), same 3 (omega arith), same 4 (omega arith), same 5 (omega arith), same 6 (omega arith), same 7 (omega arith))
+    (omega (arith, small (at + 0), small (at + 1), small (at + 2), small (at + 3), small (at + 4), small (at + 5), small (at + 6), small (at + 7))) in
+    let value : number (channel_bits 8 at line) ≡ d 0 * 128 + d 1 * 64 + d 2 * 32 + d 3 * 16 + d 4 * 8 + d 5 * 4 + d 6 * 2 + d 7 =
+    simp (sc_is, digit-odd, add_assoc, add-zero) (omega arith) in
+    ap (λ (y : ℕ). y * 9241421688590303745 % 2 ^ 64 / 2 ^ 56) (and-units 8 (from_le_bytes w64 xs) ∙ laid)
+    ∙ come_together (d 0) (d 1) (d 2) (d 3) (d 4) (d 5) (d 6) (d 7) (m 0) (m 1) (m 2) (m 3) (m 4) (m 5) (m 6) (m 7)
+    ∙ sym value
 
-pub row_is : (line : List ℕ) (at eight : ℕ) → eight ≡ eight_at line at → gathered eight % 256 ≡ number (channel_bits 8 at line)
-row_is line at eight e =
-    ap (λ (x : ℕ). gathered x % 256) e
-    ∙ sym (number-low_bits 8 (gathered (eight_at line at)))
-    ∙ ap number (gathered-bits (eight_at line at) ∙ sym (channel_lowest line at 0 8))
-    ∙ ap (λ (k : ℕ). number (channel_bits 8 k line)) (add-zero at)
+-- the eight octets from a place on, where they are there
+pub eight_there : (line eight : List ℕ) (at m : ℕ) → m ≡ min at (length line) → 8 ≤ length (take (length line - m) (drop m line))
+    → eight ≡ take 8 (take (length line - m) (drop m line)) → (i : ℕ) → i < 8 → get_or eight i 0 ≡ get_or line (at + i) 0
+eight_there line eight at m start enough is i h =
+    let all : take (length line - m) (drop m line) ≡ drop m line = take_all (length line - m) (drop m line) (rw length-drop (omega arith)) in
+    let room : 8 ≤ length line - m = rw (all, length-drop) at enough in
+    ap (λ (l : List ℕ). get_or l i 0) is ∙ get_or-take 8 (take (length line - m) (drop m line)) i 0 h
+    ∙ ap (λ (l : List ℕ). get_or l i 0) all ∙ get_or-drop m line i 0
+    ∙ ap (λ (n : ℕ). get_or line (n + i) 0) (omega arith)

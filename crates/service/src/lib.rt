@@ -2,8 +2,7 @@
 #![tactic(auto)]
 
 ghost use Rattle.std.specs.Prelude.{◌≡◌, ◌≤◌, get_or};
-ghost use Rattle.bits.specs.Bits.{sc_bit, octet_bits, digit, number};
-ghost use Rattle.bas.specs.Reading.{weight};
+ghost use Rattle.bits.specs.Bits.{sc_bit, digit, number};
 ghost use Rattle.service.specs.Service.{service_rows};
 ghost use Rattle.service.specs.Channel.{channel_bits, wrong_bits, odd_first, c_bits, bas_word};
 
@@ -30,10 +29,10 @@ pub fn service_rows(a: bool, e: bool, t: bool, remainder: u8) -> [[bool; 8]; 16]
 fn sc_bit(line: &[u8], at: usize) -> u8
     ensures { (result ≡ digit (sc_bit (get_or line.now at 0))) × (result ≤ 1) }
 {
-    if at < line.len() {
-        return line[at] % 2;
+    match line.get(at) {
+        Some(octet) => octet % 2,
+        None => 0,
     }
-    0
 }
 
 // The SC bits of eight octets from a place on as one number, the first highest, one by one.
@@ -48,26 +47,19 @@ fn row_in_turn(line: &[u8], at: usize) -> u8
     row
 }
 
-// The same, at once where all eight are there: each octet's bit is laid beside the next one's, each two beside the next two, and four beside
-// four, so that the lowest octet has all eight in the end.
+// The same, at once where all eight are there: a product of their bits with ones at every ninth place has all eight in its highest octet,
+// and nothing is carried. The octets are read the first lowest: compiled, the other order takes more than half as long again.
 fn row_at(line: &[u8], at: usize) -> u8
     requires { at ≤ 88 }
     ensures { result ≡ number (channel_bits 8 at line.now) }
 {
-    if line.len() < at + 8 {
-        return row_in_turn(line, at);
+    match line[at.min(line.len())..].first_chunk() {
+        Some(eight) => {
+            let ones = usize::from_le_bytes(*eight) & 0x0101_0101_0101_0101;
+            (ones.wrapping_mul(0x8040_2010_0804_0201) >> 56) as u8
+        }
+        None => row_in_turn(line, at),
     }
-    let ones = bits::whole_eight_at(line, at) & 0x0101_0101_0101_0101;
-    let twos = ones | (ones >> 7);
-    let fours = twos | (twos >> 14);
-    ((fours | (fours >> 28)) % 256) as u8
-}
-
-// How many bits of an octet are 1.
-fn weight_of(octet: u8) -> u8
-    ensures { result ≡ weight (octet_bits octet) }
-{
-    u8::count_ones(octet) as u8
 }
 
 // How many of the eight bits of a block's alignment word are wrong: 0011011 in the even frame and 1 in the odd one.
@@ -75,7 +67,7 @@ pub fn wrong_bits(line: &[u8]) -> u8
     ensures { result ≡ wrong_bits line.now }
 {
     let word = row_at(line, 1) / 2 * 2 + sc_bit(line, 81);
-    weight_of(word ^ 0b0011_0111)
+    (word ^ 0b0011_0111).count_ones() as u8
 }
 
 // The odd frame's first bit.
@@ -98,5 +90,5 @@ pub fn bas_word(line: &[u8]) -> u16
 {
     let even = row_at(line, 8);
     let odd = row_at(line, 88);
-    bas::line_order((even as u16) * 256 + (odd as u16))
+    bas::line_order(u16::from_be_bytes([even, odd]))
 }

@@ -4,10 +4,10 @@
 #![tactic(auto)]
 
 use Way::{A, E, Forged, Mute, ShortLine, ShortLsd, ShortVoice, T};
-use control::{Answer, Call};
+use control::{Call, Went};
 use numbers::BlockNumber;
+use refusals::Refusal;
 use sender::Sender;
-use sending::Outcome;
 use std::{fmt, io};
 
 // What is said with an offered code, and what is wrong with the buffers and the state that it is
@@ -93,14 +93,14 @@ const SCRIPT: [(u8, &[Way]); 52] = [
 
 // What became of a call, as it is printed.
 #[derive(Clone, Copy)]
-struct Told(Answer);
+struct Told(Result<Went, Refusal>);
 
 impl fmt::Display for Told {
     fn fmt<W: fmt::Write>(&self, f: &mut fmt::Formatter<W>) -> fmt::Result {
         match self.0 {
-            Answer::Sent => write!(f, "sent"),
-            Answer::Held => write!(f, "held"),
-            Answer::Refused(why) => write!(f, "refused {}", refusals::number_of(why)),
+            Ok(Went::Sent) => write!(f, "sent"),
+            Ok(Went::Held) => write!(f, "held"),
+            Err(why) => write!(f, "refused {}", u8::from(why)),
         }
     }
 }
@@ -139,31 +139,26 @@ fn print_call(rt: &impl Print, k: usize, call: Call) -> io::Result<()> {
     print!(rt; "{k} {:02X} {mute}{a}{e}{t} ", call.code)
 }
 
-fn print_outcome(rt: &impl Print, answer: Answer, s: Sender) -> io::Result<()> {
-    print!(rt;
-        "{}: chosen {} in force {}",
-        Told(answer),
-        s.chosen,
-        s.mode.audio
-    )?;
+fn print_outcome(rt: &impl Print, told: Told, s: Sender) -> io::Result<()> {
+    print!(rt; "{told}: chosen {} in force {}", s.chosen, s.mode.audio)?;
     print!(rt; " data {} block {}", s.mode.lsd, s.block.0)?;
     println!(rt; " due {} remainder {}", s.due, s.remainder)
 }
 
 // The call with its buffers lent whole, or without their last octet where its ways say so.
 fn lent(
-    given: Sender,
+    state: &mut Sender,
     call: Call,
     ways: &[Way],
     voice: &[u8; buffers::VOICE],
     lsd: &[u8; buffers::LSD],
     line: &mut [u8; buffers::LINE],
-) -> Outcome {
+) -> Result<Went, Refusal> {
     let line_end = buffers::LINE - usize::from(ways.contains(&ShortLine));
     let voice_end = buffers::VOICE - usize::from(ways.contains(&ShortVoice));
     let lsd_end = buffers::LSD - usize::from(ways.contains(&ShortLsd));
     sending::send(
-        given,
+        state,
         call,
         &voice[..voice_end],
         &lsd[..lsd_end],
@@ -171,8 +166,8 @@ fn lent(
     )
 }
 
-// Call k, printed with the state that it gives back, and with its block where it wrote one.
-fn made(rt: &impl Print, given: Sender, k: usize, code: u8, ways: &[Way]) -> io::Result<Sender> {
+// Call k, printed with the state that it leaves, and with its block where it wrote one.
+fn make(rt: &impl Print, state: &mut Sender, k: usize, code: u8, ways: &[Way]) -> io::Result<()> {
     let mut line = [0u8; buffers::LINE];
     let mut voice = [0u8; buffers::VOICE];
     let mut lsd = [0u8; buffers::LSD];
@@ -183,28 +178,28 @@ fn made(rt: &impl Print, given: Sender, k: usize, code: u8, ways: &[Way]) -> io:
     );
     fill(&mut lsd, |i| ((i % 256 * 13 + number * 17 + 5) % 241) as u8);
     let call = call_of(code, ways);
-    let outcome = lent(given, call, ways, &voice, &lsd, &mut line);
+    let answer = lent(state, call, ways, &voice, &lsd, &mut line);
     print_call(rt, k, call)?;
-    print_outcome(rt, outcome.answer, outcome.state)?;
-    if !matches!(outcome.answer, Answer::Refused(_)) {
+    print_outcome(rt, Told(answer), *state)?;
+    if answer.is_ok() {
         print_line(rt, &line)?;
     }
-    Ok(outcome.state)
+    Ok(())
 }
 
 // Every call of the script. A forged state, with a block numbered 9 that no session reaches, is for
 // one call alone: the session goes on with its own.
 fn session(rt: &impl Print) -> io::Result<()> {
-    let mut state = sender::fresh();
+    let mut state = Sender::fresh();
     for (k, (code, ways)) in (1..).zip(SCRIPT) {
         if ways.contains(&Forged) {
-            let forged = Sender {
+            let mut forged = Sender {
                 block: BlockNumber(9),
                 ..state
             };
-            made(rt, forged, k, code, ways)?;
+            make(rt, &mut forged, k, code, ways)?;
         } else {
-            state = made(rt, state, k, code, ways)?;
+            make(rt, &mut state, k, code, ways)?;
         }
     }
     Ok(())

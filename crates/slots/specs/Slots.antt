@@ -1,7 +1,5 @@
 -- Document 01, 'Slots': what each word makes of the word after it.
-use Rattle.std.specs.Prelude.{ℕ, ◌-◌, Bool, true, false, cond, eqb}
-use Rattle.bas.specs.declared.Word.{Word}
-use Rattle.bas.specs.declared.Word.TheVariants.{Code, Unreadable}
+use Rattle.std.specs.Prelude.{ℕ, ◌-◌, Bool, true, false, cond, eqb, Option, Some, None}
 use Rattle.codes.specs.Carried.{opening_of}
 use Rattle.codes.specs.declared.Opening.{Opening}
 use Rattle.codes.specs.declared.Opening.TheVariants.{Nothing, Item, Message}
@@ -33,23 +31,23 @@ is_item N = false
 is_item (Words left) = false
 
 -- an unreadable word fills its slot; if it was N, N is taken as 255
-abbrev pub length_in : Word → ℕ
-length_in (Code n) = n
-length_in Unreadable = 255
+abbrev pub length_in : Option ℕ → ℕ
+length_in (Some n) = n
+length_in None = 255
 
 -- elsewhere it is a filler
-abbrev pub opening_in : Word → Opening
-opening_in (Code code) = opening_of code
-opening_in Unreadable = Nothing
+abbrev pub opening_in : Option ℕ → Opening
+opening_in (Some code) = opening_of code
+opening_in None = Nothing
 
--- one word per block: what is due after it. An item opens nothing, whatever it says
-abbrev pub due_after_now : Due → Word → Due
+-- one word per block, None where it is unreadable: what is due after it. An item opens nothing, whatever it says
+abbrev pub due_after_now : Due → Option ℕ → Due
 due_after_now Plain word = due_by (opening_in word)
 due_after_now AnItem word = Plain
 due_after_now N word = words_due (length_in word)
 due_after_now (Words left) word = words_due (left - 1)
 
-unfoldable pub due_after : Due → Word → Due
+unfoldable pub due_after : Due → Option ℕ → Due
 due_after due word = due_after_now (due_now due) word
 
 -- how a state holds what is due; every value of its two numbers says something

@@ -12,35 +12,36 @@ ghost use Rattle.modes.specs.declared.Owner.TheVariants.{Voice, Lsd};
 ghost use Rattle.sorter.specs.Sofar.{sofar};
 ghost use Rattle.sorter.specs.Sorting.{buffers_after};
 
+use buffers::LINE;
 use modes::Mode;
 use packing::Run;
 use places::Layout;
 
 // A stream that has one run in every octet of a block.
-fn sort_columns(line: &[u8], run: Run, out: &mut [u8])
-    requires { (run.start + run.bits ≤ 8) × (length line.now ≡ line_octets) }
+fn sort_columns(line: &[u8; LINE], run: Run, out: &mut [u8])
     ensures { out.new ≡ octets (length out.old) (runs run.start run.bits line.now 0 line_octets) }
 {
-    packing::clear(out);
-    packing::sort_run(line, 0, buffers::LINE, run, out, 0);
+    out.fill(0);
+    packing::sort_run(line, 0, LINE, run, out, 0);
 }
 
 // Voice out of a block.
-fn sort_voice(line: &[u8], p: Layout, out: &mut [u8])
+fn sort_voice(line: &[u8; LINE], p: Layout, out: &mut [u8])
     requires apart { Apart p }
-    requires line_len { length line.now ≡ line_octets }
     ensures { out.new ≡ octets (length out.old) (sort Voice (rows_by p 80 ++ rows_by p 80) (bits_of line.now)) }
 {
-    let w = p.width as usize;
-    let run = Run { start: 0, bits: w };
+    let run = Run {
+        start: 0,
+        bits: p.width as usize,
+    };
     sort_columns(line, run, out);
 }
 
 // Data out of the frame that follows octet `from`, where its SC octets are whole eights: in these the run goes on into the SC bit, which is
 // an octet's last, and in the octets before and after them it does not. The answer is how many octets the buffer then has.
-fn sort_frame(line: &[u8], p: Layout, from: usize, out: &mut [u8], start: usize) -> usize
+fn sort_frame(line: &[u8; LINE], p: Layout, from: usize, out: &mut [u8], start: usize) -> usize
     requires apart { Apart p }
-    requires p_value { (in_eights p ≡ true) × (length line.now ≡ line_octets) × (from % 80 ≡ 0) × (from + 80 ≤ line_octets) × (start ≤ from) }
+    requires p_value { (in_eights p ≡ true) × (from % 80 ≡ 0) × (from + 80 ≤ line_octets) × (start ≤ from) }
     ensures { (result ≤ from + 80) × (Filled (sofar p Lsd line.now from) (start * 8) out.old → Filled (sofar p Lsd line.now (from + 80)) (result * 8) out.new) }
 {
     let c = p.columns as usize;
@@ -61,27 +62,27 @@ fn sort_frame(line: &[u8], p: Layout, from: usize, out: &mut [u8], start: usize)
 }
 
 // Data that has SC octets, out of a block: by runs, or, where they are no whole eights and so are all that it has, bit by bit.
-fn sort_with_sc(line: &[u8], p: Layout, out: &mut [u8])
+fn sort_with_sc(line: &[u8; LINE], p: Layout, lsd: &mut [u8])
     requires apart { Apart p }
-    requires line_len { (length line.now ≡ line_octets) × (20 ≤ length out.old) }
-    ensures { out.new ≡ octets (length out.old) (sort Lsd (rows_by p 80 ++ rows_by p 80) (bits_of line.now)) }
+    requires lsd_len { 20 ≤ length lsd.old }
+    ensures { lsd.new ≡ octets (length lsd.old) (sort Lsd (rows_by p 80 ++ rows_by p 80) (bits_of line.now)) }
 {
-    packing::clear(out);
+    lsd.fill(0);
     if places::in_eights(p) {
-        let half = sort_frame(line, p, 0, out, 0);
-        sort_frame(line, p, 80, out, half);
+        let half = sort_frame(line, p, 0, lsd, 0);
+        sort_frame(line, p, 80, lsd, half);
         return;
     }
     let first = p.first as usize;
     let last = p.last as usize;
-    let half = packing::sort_bits(line, first - 1, last, out, 0);
-    packing::sort_bits(line, first + 79, last + 80, out, half);
+    let half = packing::sort_bits(line, first - 1, last, lsd, 0);
+    packing::sort_bits(line, first + 79, last + 80, lsd, half);
 }
 
 // Data out of a block: where it has no SC octets, one run in every octet is all.
-fn sort_lsd(line: &[u8], p: Layout, out: &mut [u8])
+fn sort_lsd(line: &[u8; LINE], p: Layout, out: &mut [u8])
     requires apart { Apart p }
-    requires line_len { (length line.now ≡ line_octets) × (20 ≤ length out.old) }
+    requires out_len { 20 ≤ length out.old }
     ensures { out.new ≡ octets (length out.old) (sort Lsd (rows_by p 80 ++ rows_by p 80) (bits_of line.now)) }
 {
     let c = p.columns as usize;
@@ -105,8 +106,9 @@ pub fn hand_out(line: &[u8], mode: Mode, voice: &mut [u8], lsd: &mut [u8]) -> bo
     if !buffers::lengths_fit(line.len(), voice.len(), lsd.len()) {
         return false;
     }
+    let block = line.as_array().unwrap();
     let p = places::layout_of(mode);
-    sort_voice(line, p, voice);
-    sort_lsd(line, p, lsd);
+    sort_voice(block, p, voice);
+    sort_lsd(block, p, lsd);
     true
 }

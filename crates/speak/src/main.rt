@@ -3,8 +3,9 @@
 // and standard error tells what became of each. Where a word is no call, nothing is sent.
 #![tactic(auto)]
 
-use control::{Answer, Call};
+use control::{Call, Went};
 use modes::{Mode, Owner};
+use refusals::Refusal;
 use sender::Sender;
 use std::fmt;
 use std::io::Input;
@@ -45,22 +46,22 @@ struct Session {
     number: usize,
 }
 
-// What became of a call that was made in a block; `went` is the audio in force after it.
+// What became of a call that found this block number; `audio` is in force after it.
 #[derive(Clone, Copy)]
 struct Told {
-    answer: Answer,
+    answer: Result<Went, Refusal>,
     block: u8,
-    went: u8,
+    audio: u8,
 }
 
 impl fmt::Display for Told {
     fn fmt<W: fmt::Write>(&self, f: &mut fmt::Formatter<W>) -> fmt::Result {
         let block = self.block;
-        let went = self.went;
+        let audio = self.audio;
         match self.answer {
-            Answer::Sent => write!(f, "sent in block {block}"),
-            Answer::Held => write!(f, "held, {went:02X} went in block {block}"),
-            Answer::Refused(why) => write!(f, "refused {}", refusals::number_of(why)),
+            Ok(Went::Sent) => write!(f, "sent in block {block}"),
+            Ok(Went::Held) => write!(f, "held, {audio:02X} went in block {block}"),
+            Err(why) => write!(f, "refused {}", u8::from(why)),
         }
     }
 }
@@ -137,7 +138,7 @@ fn word_at(rt: &impl Env, i: usize) -> Option<Word> {
 // input. What is missing is zero.
 fn voice_under(rt: &impl Input, mode: Mode, mute: bool) -> Result<[u8; buffers::VOICE], Stop> {
     let mut voice = [0u8; buffers::VOICE];
-    let octets = usize::from(modes::bits_per_frame(mode, Owner::Voice) / 4);
+    let octets = usize::from(mode.bits_per_frame(Owner::Voice) / 4);
     if !mute && octets <= buffers::VOICE {
         intake::fill(&mut rt.reader(), &mut voice[..octets]).map_err(|_| Stop::Unread)?;
     }
@@ -145,22 +146,17 @@ fn voice_under(rt: &impl Input, mode: Mode, mute: bool) -> Result<[u8; buffers::
 }
 
 impl Session {
-    // The line of a call that was made, written at once, so that it stays whole beside those of
-    // another program.
-    fn tell(&self, rt: &impl Eprint, code: u8, answer: Answer, went: u8) {
+    // The line of a call that was made and found this block number. It is written at once, so that
+    // it stays whole beside those of another program. The next call has the next number.
+    fn tell(&mut self, rt: &impl Eprint, code: u8, block: u8, answer: Result<Went, Refusal>) {
         let number = self.number;
         let told = Told {
             answer,
-            block: self.state.block.0,
-            went,
+            block,
+            audio: self.state.mode.audio,
         };
         let _ = eprintln!(rt; "call {number}: {code:02X} {told}");
-    }
-
-    // Goes on to the next call, which finds this state.
-    fn go_on(&mut self, state: Sender) {
-        self.state = state;
-        self.number = self.number.wrapping_add(1);
+        self.number = number.wrapping_add(1);
     }
 
     // A call that is accepted: its voice is taken, and its block written. Where its voice cannot be
@@ -168,11 +164,11 @@ impl Session {
     fn frame(&mut self, rt: &(impl Input + Print + Eprint), call: Call) -> Result<(), Stop> {
         let mut line = [0u8; buffers::LINE];
         let lsd = [0u8; buffers::LSD];
+        let block = self.state.block.0;
         let voice = voice_under(rt, self.state.mode, call.mute)?;
-        let outcome = sending::send(self.state, call, &voice, &lsd, &mut line);
+        let answer = sending::send(&mut self.state, call, &voice, &lsd, &mut line);
         rt.write_all(&line).map_err(|_| Stop::Unwritten)?;
-        self.tell(rt, call.code, outcome.answer, outcome.state.mode.audio);
-        self.go_on(outcome.state);
+        self.tell(rt, call.code, block, answer);
         Ok(())
     }
 
@@ -181,13 +177,13 @@ impl Session {
         let mut line = [0u8; buffers::LINE];
         let silence = [0u8; buffers::VOICE];
         let lsd = [0u8; buffers::LSD];
-        let trial = sending::send(self.state, call, &silence, &lsd, &mut line);
-        if let Answer::Refused(_) = trial.answer {
-            self.tell(rt, call.code, trial.answer, 0);
-            self.go_on(self.state);
-            return Ok(());
+        let mut trial = self.state;
+        let answer = sending::send(&mut trial, call, &silence, &lsd, &mut line);
+        if answer.is_ok() {
+            return self.frame(rt, call);
         }
-        self.frame(rt, call)
+        self.tell(rt, call.code, trial.block.0, answer);
+        Ok(())
     }
 
     // A call, repeated as its word says.
@@ -206,7 +202,7 @@ fn all_sent(rt: &(impl Env + Input + Print + Eprint), count: usize) -> Result<()
         return Err(Stop::Unread);
     }
     let mut session = Session {
-        state: sender::fresh(),
+        state: Sender::fresh(),
         number: 1,
     };
     for word in (1..count).filter_map(|i| word_at(rt, i)) {

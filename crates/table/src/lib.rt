@@ -2,23 +2,88 @@
 #![tactic(auto)]
 
 ghost use Rattle.std.specs.Prelude.{◌≡◌};
-ghost use Rattle.table.specs.Table.{audio_places, lsd_places};
+ghost use Rattle.numbers.specs.Numbers.{octet};
+ghost use Rattle.table.specs.Table.{bits_and_sc, octet_bits_to, octet_bits_from, sc_octets, audio_listed, lsd_listed, audio_places, lsd_places};
 
 use numbers::OctetNumber;
 
 // Octet bits `from` to `to` of every octet, and the SC bit of octets `first` to `last`. A range that ends before it starts is empty.
-#[derive(Clone, Copy)]
+#[derive(Clone, Copy, Debug, PartialEq, Eq)]
 pub struct Places {
-    pub listed: bool,
     pub from: u8,
     pub to: u8,
     pub first: OctetNumber,
     pub last: OctetNumber,
 }
 
-// From audio value to the octet bits it holds, 1 to w. 0 is none of them, and 8 says that the value is not listed.
-const AUDIO: [u8; 32] = [
-    0, 8, 8, 8, 8, 8, 8, 8, 8, 8, 8, 1, 8, 8, 8, 8, 8, 8, 7, 7, 6, 6, 8, 8, 7, 6, 8, 4, 3, 2, 8, 0,
+impl Places {
+    fn bits_and_sc(from: u8, to: u8, first: u8, last: u8) -> Places
+        ensures { result ≡ bits_and_sc from to (octet first) (octet last) }
+    {
+        Places {
+            from,
+            to,
+            first: OctetNumber(first),
+            last: OctetNumber(last),
+        }
+    }
+
+    // Octet bits 1 to w; none where w is 0.
+    pub fn octet_bits_to(w: u8) -> Places
+        ensures { result ≡ octet_bits_to w }
+    {
+        Places::bits_and_sc(1, w, 17, 16)
+    }
+
+    // Octet bits a to 7; none where a is 8.
+    pub fn octet_bits_from(a: u8) -> Places
+        ensures { result ≡ octet_bits_from a }
+    {
+        Places::bits_and_sc(a, 7, 17, 16)
+    }
+
+    // SC octets f to l.
+    pub fn sc_octets(f: u8, l: u8) -> Places
+        ensures { result ≡ sc_octets (octet f) (octet l) }
+    {
+        Places::bits_and_sc(8, 7, f, l)
+    }
+}
+
+// From audio value to the octet bits it holds, 1 to w; None where the value is not listed.
+const AUDIO: [Option<u8>; 32] = [
+    Some(0),
+    None,
+    None,
+    None,
+    None,
+    None,
+    None,
+    None,
+    None,
+    None,
+    None,
+    Some(1),
+    None,
+    None,
+    None,
+    None,
+    None,
+    None,
+    Some(7),
+    Some(7),
+    Some(6),
+    Some(6),
+    None,
+    None,
+    Some(7),
+    Some(6),
+    None,
+    Some(4),
+    Some(3),
+    Some(2),
+    None,
+    Some(0),
 ];
 
 // From data value to what it holds: octet bits a to 7, and SC octets f to l. From 8 to 7, and from 17 to 16, is none.
@@ -40,50 +105,40 @@ const LSD: [[u8; 3]; 15] = [
     [1, 17, 80],
 ];
 
-// The places of audio [v].
+// The places of audio [v], where it is listed.
+pub fn audio_listed(v: u8) -> Option<Places>
+    ensures { result ≡ audio_listed v }
+{
+    if 32 <= v {
+        return None;
+    }
+    let w = AUDIO[v as usize]?;
+    Some(Places::octet_bits_to(w))
+}
+
+// The places of data [v], where it is listed.
+pub fn lsd_listed(v: u8) -> Option<Places>
+    ensures { result ≡ lsd_listed v }
+{
+    if 15 <= v {
+        return None;
+    }
+    let [from, first, last] = LSD[v as usize];
+    Some(Places::bits_and_sc(from, 7, first, last))
+}
+
+// The places of audio [v]: none where it is not listed.
+#[tactic(auto, unfolding(crate::specs::Table::audio_places))]
 pub fn audio_places(v: u8) -> Places
     ensures { result ≡ audio_places v }
 {
-    if v < 32 {
-        let w = AUDIO[v as usize];
-        if w < 8 {
-            return Places {
-                listed: true,
-                from: 1,
-                to: w,
-                first: OctetNumber(17),
-                last: OctetNumber(16),
-            };
-        }
-    }
-    Places {
-        listed: false,
-        from: 1,
-        to: 0,
-        first: OctetNumber(17),
-        last: OctetNumber(16),
-    }
+    audio_listed(v).unwrap_or(Places::octet_bits_to(0))
 }
 
-// The places of data [v].
+// The places of data [v]: none where it is not listed.
+#[tactic(auto, unfolding(crate::specs::Table::lsd_places))]
 pub fn lsd_places(v: u8) -> Places
     ensures { result ≡ lsd_places v }
 {
-    if v < 15 {
-        let held = LSD[v as usize];
-        return Places {
-            listed: true,
-            from: held[0],
-            to: 7,
-            first: OctetNumber(held[1]),
-            last: OctetNumber(held[2]),
-        };
-    }
-    Places {
-        listed: false,
-        from: 8,
-        to: 7,
-        first: OctetNumber(17),
-        last: OctetNumber(16),
-    }
+    lsd_listed(v).unwrap_or(Places::octet_bits_from(8))
 }

@@ -5,7 +5,7 @@ use mathlib.Core.List.{List, [], ◌∷◌, ◌++◌}
 use Prim.Native.Nat.{ℕ, zero, suc, ◌+◌, ◌≤◌, ◌<◌}
 use native.Mathlib.Nat.{zero-add, add-zero, suc-add, zero-min, suc-min-suc}
 use native.Mathlib.Omega.{arith}
-use lib.ListN.{length, take, drop, set, length-append, take-append-drop}
+use lib.ListN.{length, take, drop, set, length-append, length-drop, take-append-drop}
 use Rattle.text.specs.Over.{over, over_at, place_in, Written}
 
 -- ---- from the front
@@ -52,6 +52,13 @@ over_at-nil at buffer = take-append-drop at buffer
 pub over_at-fits : (xs buffer : List ℕ) → length xs ≤ length buffer → over_at 0 xs buffer ≡ xs ++ drop (length xs) buffer
 unfolding over_at
 over_at-fits xs buffer h = over-fits xs buffer h
+
+pub over_at-whole : (at : ℕ) (xs buffer : List ℕ) → at + length xs ≤ length buffer
+    → take at buffer ++ (xs ++ drop (length xs) (drop at buffer)) ≡ over_at at xs buffer
+unfolding over_at
+over_at-whole at xs buffer h =
+    let room : length xs ≤ length (drop at buffer) = rw length-drop (omega arith) in
+    ap (λ (l : List ℕ). take at buffer ++ l) (sym (over-fits xs (drop at buffer) room))
 
 pub over_at_one : (at x : ℕ) (buffer : List ℕ) → over_at at (x ∷ []) buffer ≡ set buffer at x
 unfolding over_at over

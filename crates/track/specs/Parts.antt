@@ -1,7 +1,6 @@
 -- Document 01, 'Reading a block', steps 1 to 4, each sentence by itself.
-use Rattle.std.specs.Prelude.{Bool, cond, ℕ, ◌+◌, ◌*◌, ◌%◌, eqb}
+use Rattle.std.specs.Prelude.{Bool, cond, ℕ, ◌+◌, ◌*◌, ◌%◌, eqb, Option}
 use Rattle.bits.specs.Bits.{digit}
-use Rattle.bas.specs.declared.Word.{Word}
 use Rattle.numbers.specs.Numbers.{following}
 use Rattle.numbers.specs.declared.BlockNumber.{BlockNumber}
 use Rattle.modes.specs.declared.Mode.{Mode}
@@ -59,10 +58,10 @@ standing_number Read = 1
 standing_number Lost = 2
 
 -- multiframe place known at entry: the word is read in its slot. Unknown: it is not read
-abbrev pub word_read : Reader → Word → Reading
+abbrev pub word_read : Reader → Option ℕ → Reading
 word_read s word = cond (known s) (reading_in (due_of s.slot) word) NotRead
 
-abbrev pub due_read : Reader → Word → Due
+abbrev pub due_read : Reader → Option ℕ → Due
 due_read s word = cond (known s) (due_after (due_of s.slot) word) (due_now (due_of s.slot))
 
 -- ---- 4. the multiframe place

@@ -1,15 +1,13 @@
 -- Document 01, 'Reading a block': what a block shows in its service channel, and its remainder.
-use Rattle.std.specs.Prelude.{cond, List, ℕ, leb}
+use Rattle.std.specs.Prelude.{cond, List, ℕ, leb, Option, None}
 use Rattle.crc.specs.Crc.{block_crc_of}
 use Rattle.bas.specs.Reading.{reading_of}
-use Rattle.bas.specs.declared.Word.{Word}
-use Rattle.bas.specs.declared.Word.TheVariants.{Unreadable}
 use Rattle.service.specs.Channel.{wrong_bits, odd_first, c_bits, bas_word}
 use Rattle.track.specs.declared.Signs.{Signs}
 
 -- BAS read if at most two of the eight alignment bits are wrong, else unreadable
-abbrev pub word_in : ℕ → List ℕ → Word
-word_in wrong line = cond (leb wrong 2) (reading_of (bas_word line)) Unreadable
+abbrev pub word_in : ℕ → List ℕ → Option ℕ
+word_in wrong line = cond (leb wrong 2) (reading_of (bas_word line)) None
 
 abbrev pub signs_of : List ℕ → Signs
 signs_of line =

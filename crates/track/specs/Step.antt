@@ -8,9 +8,16 @@ use Rattle.track.specs.Parts.{wrong_run, mode_before, kept_after, verdict_of, st
 use Rattle.reader.specs.declared.Reader.{Reader}
 use Rattle.track.specs.declared.Signs.{Signs}
 use Rattle.track.specs.declared.Report.{Report}
-use Rattle.track.specs.declared.Stepped.{Stepped}
 use Rattle.track.specs.declared.Standing.TheVariants.{Lost}
 use Rattle.track.specs.declared.Verdict.TheVariants.{None}
+
+-- what a step leaves of the state, and the block's answer
+pub record Stepped : Type 0 where
+  pub state : Reader
+  pub report : Report
+
+abbrev pub stepped : Reader → Report → Stepped
+stepped state report = record { state = state; report = report }
 
 -- third in a row: lost, no verdict, word not read, mode back to what it was before the first of the three, the rest fresh
 abbrev pub lost_step : Reader → Stepped

@@ -5,33 +5,33 @@ ghost use Rattle.std.specs.Prelude.{◌≡◌, ◌≤◌};
 ghost use Rattle.service.specs.Channel.{wrong_bits};
 ghost use Rattle.track.specs.Signs.{word_in, signs_of};
 ghost use Rattle.track.specs.Parts.{counted, mode_before, verdict_of, standing_of, word_read, due_read, six_after, compared, multiframe_after, kept_after};
-ghost use Rattle.track.specs.Step.{lost_step, report_of, next_of, on_step, step_of};
+ghost use Rattle.track.specs.Step.{stepped, lost_step, report_of, next_of, on_step, step_of};
 
-use bas::Word;
 use modes::Mode;
 use numbers::BlockNumber;
 use reader::Reader;
 use slots::{Due, Slot};
 use words::Reading;
 
-// What a block shows in its service channel, and its remainder.
+// What a block shows in its service channel, and its remainder. The word is None where it is unreadable.
 #[derive(Clone, Copy)]
 pub struct Signs {
     pub wrong: u8,
     pub c: u8,
     pub first: bool,
-    pub word: Word,
+    pub word: Option<u8>,
     pub remainder: u8,
 }
 
-#[derive(Clone, Copy)]
+#[derive(Clone, Copy, Debug, PartialEq, Eq)]
 pub enum Standing {
     Waiting,
     Read,
     Lost,
 }
 
-#[derive(Clone, Copy)]
+// A block has a verdict of None where there is no block before it.
+#[derive(Clone, Copy, Debug, PartialEq, Eq)]
 pub enum Verdict {
     None,
     Good,
@@ -39,17 +39,11 @@ pub enum Verdict {
 }
 
 // A block's answer, with the reading of its BAS word inside it.
-#[derive(Clone, Copy)]
+#[derive(Clone, Copy, Debug, PartialEq, Eq)]
 pub struct Report {
     pub standing: Standing,
     pub verdict: Verdict,
     pub reading: Reading,
-}
-
-#[derive(Clone, Copy)]
-pub struct Stepped {
-    pub state: Reader,
-    pub report: Report,
 }
 
 // Where the multiframe stands after a block: the next block's number, the run of wrong patterns, and what is due.
@@ -61,13 +55,14 @@ pub struct Multiframe {
 }
 
 // The block's BAS word, where at most two of its alignment bits are wrong.
-fn word_in(line: &[u8], wrong: u8) -> Word
+fn word_in(line: &[u8], wrong: u8) -> Option<u8>
     ensures { result ≡ word_in wrong line.now }
 {
     if wrong <= 2 {
-        return bas::read_word(service::bas_word(line));
+        bas::read_word(service::bas_word(line))
+    } else {
+        None
     }
-    Word::Unreadable
 }
 
 // What a block shows, `wrong` of whose alignment bits are wrong: they have been counted by now.
@@ -75,243 +70,192 @@ fn signs_of(line: &[u8], wrong: u8) -> Signs
     requires { wrong ≡ wrong_bits line.now }
     ensures { result ≡ signs_of line.now }
 {
-    let c = service::c_bits(line);
-    let first = service::odd_first(line);
-    let word = word_in(line, wrong);
-    let remainder = crc::block_crc(line);
     Signs {
-        wrong: wrong,
-        c: c,
-        first: first,
-        word: word,
-        remainder: remainder,
+        wrong,
+        c: service::c_bits(line),
+        first: service::odd_first(line),
+        word: word_in(line, wrong),
+        remainder: crc::block_crc(line),
     }
 }
 
 // A run goes on with a wrong one and ends with a right one.
-fn count(run: u8, right: bool) -> u8
+fn counted(run: u8, right: bool) -> u8
     requires { run ≤ 2 }
     ensures { result ≡ counted run right }
 {
-    if right {
-        return 0;
-    }
-    run + 1
+    if right { 0 } else { run + 1 }
 }
 
 // The mode as the first wrong block of the run found it.
 fn mode_before(s: Reader) -> Mode
     ensures { result ≡ mode_before s }
 {
-    let mode = s.mode;
-    let kept = s.kept;
-    if s.wrong == 0 {
-        return mode;
-    }
-    kept
-}
-
-fn verdict_of(s: Reader, c: u8) -> Verdict
-    ensures { result ≡ verdict_of s c }
-{
-    if s.before == 0 {
-        return Verdict::None;
-    }
-    if c == s.remainder {
-        return Verdict::Good;
-    }
-    Verdict::Bad
-}
-
-fn word_read(s: Reader, word: Word) -> Reading
-    ensures { result ≡ word_read s word }
-{
-    let slot = s.slot;
-    let block = s.block;
-    if block.0 == 0 {
-        return Reading::NotRead;
-    }
-    words::reading_in(slots::due_of(slot), word)
-}
-
-fn due_read(s: Reader, word: Word) -> Due
-    ensures { result ≡ due_read s word }
-{
-    let slot = s.slot;
-    let block = s.block;
-    if block.0 == 0 {
-        return slots::due_now(slots::due_of(slot));
-    }
-    slots::due_after(slots::due_of(slot), word)
-}
-
-// The last six odd-frame first bits, this block's among them.
-fn six_after(firsts: u8, first: bool) -> u8
-    ensures { result ≡ six_after firsts first }
-{
-    let older = firsts % 32 * 2;
-    if first {
-        return older + 1;
-    }
-    older
-}
-
-// The six, compared after block 6.
-fn compare(misses: u8, right: bool, due: Due) -> Multiframe
-    requires { misses ≤ 2 }
-    ensures { result ≡ compared misses right due }
-{
-    let missed = count(misses, right);
-    let unknown = BlockNumber(0);
-    let next = BlockNumber(7);
-    if missed == 3 {
-        return Multiframe {
-            block: unknown,
-            misses: 0,
-            due: Due::Plain,
-        };
-    }
-    Multiframe {
-        block: next,
-        misses: missed,
-        due: due,
-    }
-}
-
-fn multiframe_after(s: Reader, right: bool, due: Due) -> Multiframe
-    requires { s.misses ≤ 2 }
-    ensures { result ≡ multiframe_after s right due }
-{
-    let block = s.block;
-    let misses = s.misses;
-    let unknown = BlockNumber(0);
-    let seventh = BlockNumber(7);
-    if block.0 == 0 {
-        if right {
-            return Multiframe {
-                block: seventh,
-                misses: misses,
-                due: due,
-            };
-        }
-        return Multiframe {
-            block: unknown,
-            misses: misses,
-            due: due,
-        };
-    }
-    if block.0 == 6 {
-        return compare(misses, right, due);
-    }
-    let next = numbers::next_block(block);
-    Multiframe {
-        block: next,
-        misses: misses,
-        due: due,
-    }
+    if s.wrong == 0 { s.mode } else { s.kept }
 }
 
 // The mode to go back to: that in force while the alignment words are right.
 fn kept_after(s: Reader, wrong: u8, mode: Mode) -> Mode
     ensures { result ≡ kept_after s wrong mode }
 {
-    if wrong == 0 {
-        return mode;
+    if wrong == 0 { mode } else { mode_before(s) }
+}
+
+fn verdict_of(s: Reader, c: u8) -> Verdict
+    ensures { result ≡ verdict_of s c }
+{
+    if s.before == 0 {
+        Verdict::None
+    } else if c == s.remainder {
+        Verdict::Good
+    } else {
+        Verdict::Bad
     }
-    mode_before(s)
 }
 
 fn standing_of(s: Reader) -> Standing
     ensures { result ≡ standing_of s }
 {
-    let block = s.block;
-    if block.0 == 0 {
-        return Standing::Waiting;
+    if s.is_known() {
+        Standing::Read
+    } else {
+        Standing::Waiting
     }
-    Standing::Read
+}
+
+// While the multiframe place is known a word is read in its slot.
+fn word_read(s: Reader, word: Option<u8>) -> Reading
+    ensures { result ≡ word_read s word }
+{
+    if s.is_known() {
+        words::reading_in(Due::from(s.slot), word)
+    } else {
+        Reading::NotRead
+    }
+}
+
+fn due_read(s: Reader, word: Option<u8>) -> Due
+    ensures { result ≡ due_read s word }
+{
+    let due = Due::from(s.slot);
+    if s.is_known() {
+        due.after(word)
+    } else {
+        due.now()
+    }
+}
+
+// The last six odd-frame first bits, this block's among them.
+fn six_after(firsts: u8, first: bool) -> u8
+    ensures { result ≡ six_after firsts first }
+{
+    firsts % 32 * 2 + u8::from(first)
+}
+
+// The six, compared after block 6.
+fn compared(misses: u8, right: bool, due: Due) -> Multiframe
+    requires { misses ≤ 2 }
+    ensures { result ≡ compared misses right due }
+{
+    let missed = counted(misses, right);
+    if missed == 3 {
+        return Multiframe {
+            block: BlockNumber(0),
+            misses: 0,
+            due: Due::Plain,
+        };
+    }
+    Multiframe {
+        block: BlockNumber(7),
+        misses: missed,
+        due,
+    }
+}
+
+// While the place is unknown, six that are right make the next block block 7.
+#[tactic(auto, unfolding(crate::specs::Parts::multiframe_after))]
+fn multiframe_after(s: Reader, right: bool, due: Due) -> Multiframe
+    requires { s.misses ≤ 2 }
+    ensures { result ≡ multiframe_after s right due }
+{
+    let misses = s.misses;
+    let block = match s.block.0 {
+        0 if right => BlockNumber(7),
+        0 => BlockNumber(0),
+        6 => return compared(misses, right, due),
+        _ => s.block.next(),
+    };
+    Multiframe { block, misses, due }
 }
 
 // The answer to a block that is not lost.
+#[tactic(auto, unfolding(crate::specs::Step::report_of))]
 fn report_of(s: Reader, g: Signs) -> Report
     ensures { result ≡ report_of s g }
 {
-    let word = g.word;
-    let standing = standing_of(s);
-    let verdict = verdict_of(s, g.c);
-    let reading = word_read(s, word);
     Report {
-        standing: standing,
-        verdict: verdict,
-        reading: reading,
+        standing: standing_of(s),
+        verdict: verdict_of(s, g.c),
+        reading: word_read(s, g.word),
     }
 }
 
 // The state after a block that is not lost, where `run` alignment words in a row are wrong now.
+#[tactic(auto, unfolding(crate::specs::Step::next_of))]
 fn next_of(s: Reader, g: Signs, run: u8) -> Reader
     requires { s.misses ≤ 2 }
     ensures { result ≡ next_of s g run }
 {
-    let old = s.mode;
-    let word = g.word;
-    let mode = words::obey(word_read(s, word), old);
-    let kept = kept_after(s, g.wrong, mode);
+    let mode = word_read(s, g.word).obey(s.mode);
     let firsts = six_after(s.firsts, g.first);
-    let stands = multiframe_after(s, firsts == 0b001011, due_read(s, word));
-    let block = stands.block;
-    let due = stands.due;
-    let slot = slots::slot_of(due);
+    let stands = multiframe_after(s, firsts == 0b001011, due_read(s, g.word));
     Reader {
-        mode: mode,
-        kept: kept,
+        mode,
+        kept: kept_after(s, g.wrong, mode),
         wrong: run,
-        block: block,
-        firsts: firsts,
+        block: stands.block,
+        firsts,
         misses: stands.misses,
-        slot: slot,
+        slot: Slot::from(stands.due),
         before: 1,
         remainder: g.remainder,
     }
 }
 
 // The step over a block that is lost: the mode goes back, and the rest is fresh.
-fn lose(s: Reader) -> Stepped
-    ensures { result ≡ lost_step s }
+fn lose(state: &mut Reader) -> Report
+    ensures { stepped state.new result ≡ lost_step state.old }
 {
-    let gone = reader::fresh_in(mode_before(s));
-    let lost = Report {
+    *state = Reader::fresh_in(mode_before(*state));
+    Report {
         standing: Standing::Lost,
         verdict: Verdict::None,
         reading: Reading::NotRead,
-    };
-    Stepped {
-        state: gone,
-        report: lost,
     }
 }
 
 // The step over a block that is not lost: `wrong` of its alignment bits are wrong, and `run` alignment words in a row.
-fn go_on(s: Reader, line: &[u8], wrong: u8, run: u8) -> Stepped
-    requires { (s.misses ≤ 2) × (wrong ≡ wrong_bits line.now) }
-    ensures { result ≡ on_step s (signs_of line.now) run }
+fn go_on(state: &mut Reader, line: &[u8], wrong: u8, run: u8) -> Report
+    requires { (state.old.misses ≤ 2) × (wrong ≡ wrong_bits line.now) }
+    ensures { stepped state.new result ≡ on_step state.old (signs_of line.now) run }
 {
-    let g = signs_of(line, wrong);
-    let report = report_of(s, g);
-    let state = next_of(s, g, run);
-    Stepped {
-        state: state,
-        report: report,
-    }
+    let signs = signs_of(line, wrong);
+    let report = report_of(*state, signs);
+    *state = next_of(*state, signs, run);
+    report
 }
 
 // The step over a block, for a state whose runs are at most 2: the third wrong alignment word in a row is a loss, and nothing else of the block is looked at.
-pub fn step(s: Reader, line: &[u8]) -> Stepped
-    requires { (s.wrong ≤ 2) × (s.misses ≤ 2) }
-    ensures { result ≡ step_of s (signs_of line.now) }
+#[tactic(auto, unfolding(crate::specs::Step::step_of))]
+pub fn step(state: &mut Reader, line: &[u8]) -> Report
+    requires { (state.old.wrong ≤ 2) × (state.old.misses ≤ 2) }
+    ensures { stepped state.new result ≡ step_of state.old (signs_of line.now) }
 {
     let wrong = service::wrong_bits(line);
-    let run = count(s.wrong, wrong == 0);
+    let run = counted(state.wrong, wrong == 0);
     if run == 3 {
-        return lose(s);
+        lose(state)
+    } else {
+        go_on(state, line, wrong, run)
     }
-    go_on(s, line, wrong, run)
 }

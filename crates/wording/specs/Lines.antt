@@ -1,10 +1,10 @@
 -- Document 01, 'Figures to check against': what a line of the listing says.
-use Rattle.std.specs.Prelude.{List, ◌++◌, ℕ}
+use Rattle.std.specs.Prelude.{List, ◌++◌, ℕ, unwrap_or, option_map}
 use Prim.Native.String.{String}
 use Rattle.digits.specs.Digits.{hex_of, decimal_of}
 use Rattle.text.specs.Words.{text_of}
 use Rattle.words.specs.declared.Reading.{Reading}
-use Rattle.words.specs.declared.Reading.TheVariants.{Mended, Item, MessageWord, ForbiddenItem, NotFollowed, Unreadable, NotRead}
+use Rattle.words.specs.Readings.{code_of}
 use Rattle.track.specs.declared.Report.{Report}
 use Rattle.track.specs.declared.Standing.{Standing}
 use Rattle.track.specs.declared.Standing.TheVariants.{Waiting, Read, Lost}
@@ -32,13 +32,7 @@ verdict_text Bad = text_of "bad"
 
 -- mended code in two capital hex digits, or -- where unreadable or not read
 abbrev pub code_text : Reading → List ℕ
-code_text (Mended code) = hex_of code
-code_text (Item code) = hex_of code
-code_text (MessageWord code) = hex_of code
-code_text (ForbiddenItem code) = hex_of code
-code_text (NotFollowed code) = hex_of code
-code_text Unreadable = text_of "--"
-code_text NotRead = text_of "--"
+code_text reading = unwrap_or (option_map hex_of (code_of reading)) (text_of "--")
 
 -- each block: count, state, CRC, code
 unfoldable pub block_line : ℕ → Report → List ℕ

@@ -4,7 +4,7 @@ use mathlib.Core.Bool.{Bool, true, false, not, cond}
 use Prim.Native.Nat.{ℕ, ◌<◌}
 use borrow.Author.Tests.{not-true}
 use Rattle.bits.proofs.BoolLaws.{below}
-use Rattle.table.specs.Table.{audio_table, lsd_table, beside, audio_places, lsd_places}
+use Rattle.table.specs.Table.{audio_table, lsd_table, beside, audio_places, lsd_places, audio_listed, lsd_listed}
 use Rattle.table.proofs.TableLaws.{audio-small}
 use Rattle.modes.specs.Owners.{holds, held_by, some, clash, overlaps}
 use Rattle.modes.specs.Modes.{audio_off, lsd_off, off, with_audio, with_lsd, in_range}
@@ -20,7 +20,7 @@ use Rattle.words.specs.declared.Reading.TheVariants.{Mended, Item, MessageWord, 
 
 -- where data is off, audio overlaps nothing: antt computes it at each value
 off-apart : (v : ℕ) → v < 32 → overlaps (with_audio off v) ≡ false
-unfolding audio_places audio_table lsd_places lsd_table beside overlaps clash some holds held_by
+unfolding audio_places audio_listed audio_table lsd_places lsd_listed lsd_table beside overlaps clash some holds held_by
 off-apart v small = not-true _ (below 32 (λ (k : ℕ). not (overlaps (with_audio off k))) refl v small)
 
 lsd-off-apart : (m : Mode) → m.audio < 32 → overlaps (with_lsd m lsd_off) ≡ false

@@ -1,6 +1,5 @@
 -- Document 01, 'Slots' and 'Reading a block': the reading of a word in its slot, and what it does to the mode.
-use Rattle.std.specs.Prelude.{not, cond, ◌&&◌, ℕ, leb, eqb}
-use Rattle.bas.specs.declared.Word.{Word}
+use Rattle.std.specs.Prelude.{not, cond, ◌&&◌, ℕ, leb, eqb, Option, Some, None, unwrap_or}
 use Rattle.modes.specs.declared.Mode.{Mode}
 use Rattle.codes.specs.Codes.{attribute}
 use Rattle.codes.specs.Carried.{reader_carries}
@@ -26,9 +25,9 @@ code_reading AnItem code = item_reading code
 code_reading N code = MessageWord code
 code_reading (Words left) code = MessageWord code
 
-unfoldable pub reading_in : Due → Word → Reading
-reading_in due (Word.Code code) = code_reading (due_now due) code
-reading_in due Word.Unreadable = Unreadable
+unfoldable pub reading_in : Due → Option ℕ → Reading
+reading_in due (Some code) = code_reading (due_now due) code
+reading_in due None = Unreadable
 
 -- items and message words are no commands, and a word that is not followed changes nothing
 unfoldable pub obeyed : Reading → Mode → Mode
@@ -51,11 +50,15 @@ reading_kind (NotFollowed code) = 4
 reading_kind Unreadable = 5
 reading_kind NotRead = 6
 
+-- the code inside a reading
+abbrev pub code_of : Reading → Option ℕ
+code_of (Mended code) = Some code
+code_of (Item code) = Some code
+code_of (MessageWord code) = Some code
+code_of (ForbiddenItem code) = Some code
+code_of (NotFollowed code) = Some code
+code_of Unreadable = None
+code_of NotRead = None
+
 abbrev pub reading_code : Reading → ℕ
-reading_code (Mended code) = code
-reading_code (Item code) = code
-reading_code (MessageWord code) = code
-reading_code (ForbiddenItem code) = code
-reading_code (NotFollowed code) = code
-reading_code Unreadable = 0
-reading_code NotRead = 0
+reading_code reading = unwrap_or (code_of reading) 0

@@ -1,15 +1,15 @@
-// What a BAS word is read as where it stands, and what that does to the mode (document 01, 'Slots' and 'Reading a block').
+// What a BAS word is read as where it stands, and what that does to the mode (document 01, 'Slots'
+// and 'Reading a block').
 #![tactic(auto)]
 
 ghost use Rattle.std.specs.Prelude.{◌≡◌};
-ghost use Rattle.words.specs.Readings.{plain_reading, item_reading, code_reading, reading_in, obeyed};
+ghost use Rattle.words.specs.Readings.{plain_reading, item_reading, reading_in, obeyed, code_of};
 
-use bas::Word;
 use modes::Mode;
 use slots::Due;
 
 // What a word was read as. All but the last two hold its code.
-#[derive(Clone, Copy)]
+#[derive(Clone, Copy, Debug, PartialEq, Eq)]
 pub enum Reading {
     Mended(u8),
     Item(u8),
@@ -23,54 +23,61 @@ pub enum Reading {
 fn plain_reading(code: u8) -> Reading
     ensures { result ≡ plain_reading code }
 {
-    let carried = codes::reader_carries(code);
-    if (code / 32 <= 3) & !carried {
-        return Reading::NotFollowed(code);
+    if code / 32 <= 3 && !codes::reader_carries(code) {
+        Reading::NotFollowed(code)
+    } else {
+        Reading::Mended(code)
     }
-    Reading::Mended(code)
 }
 
 fn item_reading(code: u8) -> Reading
     ensures { result ≡ item_reading code }
 {
     if code / 32 == 7 {
-        return Reading::ForbiddenItem(code);
-    }
-    Reading::Item(code)
-}
-
-fn code_reading(due: Due, code: u8) -> Reading
-    ensures { result ≡ code_reading due code }
-{
-    match due {
-        Due::Plain => plain_reading(code),
-        Due::AnItem => item_reading(code),
-        Due::N => Reading::MessageWord(code),
-        Due::Words(_left) => Reading::MessageWord(code),
+        Reading::ForbiddenItem(code)
+    } else {
+        Reading::Item(code)
     }
 }
 
 // What a word is read as, where `due` is due.
-pub fn reading_in(due: Due, word: Word) -> Reading
+#[tactic(auto, unfolding(crate::specs::Readings::reading_in))]
+pub fn reading_in(due: Due, word: Option<u8>) -> Reading
     ensures { result ≡ reading_in due word }
 {
-    match word {
-        Word::Code(code) => code_reading(slots::due_now(due), code),
-        Word::Unreadable => Reading::Unreadable,
+    let Some(code) = word else {
+        return Reading::Unreadable;
+    };
+    match due.now() {
+        Due::Plain => plain_reading(code),
+        Due::AnItem => item_reading(code),
+        Due::N | Due::Words(_) => Reading::MessageWord(code),
     }
 }
 
-// The mode after a reading: only a plain word that is followed is a command.
-pub fn obey(reading: Reading, mode: Mode) -> Mode
-    ensures { result ≡ obeyed reading mode }
-{
-    match reading {
-        Reading::Mended(code) => codes::follow(codes::command_of(code), mode),
-        Reading::Item(_code) => mode,
-        Reading::MessageWord(_code) => mode,
-        Reading::ForbiddenItem(_code) => mode,
-        Reading::NotFollowed(_code) => mode,
-        Reading::Unreadable => mode,
-        Reading::NotRead => mode,
+impl Reading {
+    // The code that was read, where there is one.
+    pub fn code(self) -> Option<u8>
+        ensures { result ≡ code_of self }
+    {
+        match self {
+            Reading::Mended(code)
+            | Reading::Item(code)
+            | Reading::MessageWord(code)
+            | Reading::ForbiddenItem(code)
+            | Reading::NotFollowed(code) => Some(code),
+            Reading::Unreadable | Reading::NotRead => None,
+        }
+    }
+
+    // The mode after a reading: only a plain word that is followed is a command.
+    #[tactic(auto, unfolding(crate::specs::Readings::obeyed))]
+    pub fn obey(self, mode: Mode) -> Mode
+        ensures { result ≡ obeyed self mode }
+    {
+        match self {
+            Reading::Mended(code) => codes::command_of(code).follow(mode),
+            _ => mode,
+        }
     }
 }

@@ -1,10 +1,12 @@
--- `bits::eight_within` meets its contract: two parts of four octets.
-use mathlib.Core.Path.{sym, ap₂, ◌∙◌}
-use Prim.Native.Nat.{ℕ, ◌+◌, ◌*◌}
-use Rattle.bits.proofs.EightLaws.{number_parts}
+-- `bits::eight_within` meets its contract.
+use Rattle.std.proofs.Common.{arith, ◌∙◌, ◌-◌}
+use lib.ListN.{length}
+use Rattle.bits.proofs.EightLaws.{eight_cut}
 use Rattle.bits.proofs.eight_within.Goals as goal
 
 pub returns : goal.returns
 returns c =
     let a = c.args in
-    ap₂ (λ (x y : ℕ). x * 0x1_0000_0000 + y) c.four_within-first.ensures.0 c.four_within.ensures.0 ∙ sym (number_parts a.octets.now a.at 4 4)
+    let cut = rw c.unwrap.ensures at c.first_chunk.ensures.cases in
+    c.from_be_bytes.ensures
+    ∙ eight_cut a.octets.now c.unwrap.result.now a.at (length a.octets.now - a.at) (λ i. omega (arith, c.type_inv.octets i)) (omega arith) cut.same

@@ -1,18 +1,14 @@
--- `crc::summed_octet` meets its contract: each return follows from the tests that led there.
-use native.Mathlib.Omega.{arith}
-use borrow.Author.Tests.{le-leb, lt-leb, lt-ltb, le-ltb}
+-- `crc::summed_octet` meets its contract: the test tells whether the octet has a C bit.
+use Rattle.std.proofs.Common.{arith}
+use Rattle.std.proofs.lemmas.Bool.Decides.{nat_tests}
 use Rattle.bits.proofs.BitLaws.{without-sc}
 use Rattle.crc.specs.Crc.{summed}
 use Rattle.crc.proofs.summed_octet.Goals as goal
 
-pub returns-then-at-le87 : goal.returns-then-at-le87
+pub returns-then-contains : goal.returns-then-contains
 unfolding summed
-returns-then-at-le87 c = simp (le-leb _ _ c.if-at-ge84.true, lt-ltb c.args.at 88 (omega arith), without-sc)
+returns-then-contains c = rw without-sc (grind (arith, nat_tests))
 
-pub returns-else-at-le87 : goal.returns-else-at-le87
+pub returns-else-contains : goal.returns-else-contains
 unfolding summed
-returns-else-at-le87 c = simp (le-leb _ _ c.if-at-ge84.true, le-ltb c.args.at 88 (omega arith))
-
-pub returns-else-at-ge84 : goal.returns-else-at-ge84
-unfolding summed
-returns-else-at-ge84 c = simp (lt-leb _ _ c.if-at-ge84.false)
+returns-else-contains c = grind (arith, nat_tests)

@@ -2,7 +2,6 @@
 use borrow.Author.Tests.{le-leb, lt-leb}
 use native.Mathlib.Omega.{arith}
 use Rattle.digits.specs.Digits.{digit_at}
-use Rattle.text.proofs.OverLaws.{written_none}
 use Rattle.digits.proofs.put_digit_at.Goals as goal
 
 pub returns-then-power-n : goal.returns-then-power-n
@@ -15,4 +14,4 @@ pub returns : goal.returns
 unfolding digit_at
 returns c =
     let a = c.args in
-    rw (lt-leb a.power a.n (omega arith)) (written_none _ _ _ c.place_in.ensures)
+    rw (lt-leb a.power a.n (omega arith)) c.put_all.ensures

@@ -1,16 +1,14 @@
--- `digits::put_digits` meets its contract. The loop's invariant: the digits from 10 ^ k on, written next, make the digits whole.
+-- `digits::put_digits` meets its contract. The loop's invariant: the digits that are left, written next, make the digits whole.
 use mathlib.Core.Path.{◌≡◌}
-use mathlib.Core.List.{List}
-use Prim.Native.Nat.{ℕ, ◌^◌}
-use lib.ListN.{length}
-use Rattle.text.specs.Over.{Written}
-use Rattle.digits.specs.Digits.{digitsFrom}
+use Prim.Native.Nat.{◌-◌, ◌^◌, ◌≤◌}
+use Rattle.text.specs.declared.Page.{Page}
+use Rattle.text.specs.Pages.{Wrote}
+use Rattle.digits.specs.Digits.{digits_from}
 use Rattle.digits.proofs.put_digits.Given as goal
 
-abbrev pub invariant-loop-k : goal.invariant-loop-k
-invariant-loop-k l =
-    (length l.text ≡ length l.initial.text) × (l.here ≡ 10 ^ l.k)
-    × ((r : ℕ) (b : List ℕ) → Written l.place (digitsFrom l.k l.n) l.text r b → Written l.at (digitsFrom l.first l.n) l.initial.text r b)
-
-abbrev pub decreases-loop-k : goal.decreases-loop-k
-decreases-loop-k l = l.k
+abbrev pub invariant-loop-i : goal.invariant-loop-i
+invariant-loop-i l = record {
+  within : l.i ≤ l.first;
+  power : l.here ≡ 10 ^ (l.first - l.i);
+  left : (end : Page) → Wrote l.page (digits_from (l.first - l.i) l.n) end → Wrote l.initial.page (digits_from l.first l.n) end;
+}

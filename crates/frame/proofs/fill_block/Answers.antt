@@ -3,55 +3,40 @@ use mathlib.Core.Path.{◌≡◌, sym, ap, ap₂, ◌∙◌}
 use mathlib.Core.List.{◌++◌}
 use Prim.Native.Nat.{ℕ, ◌+◌, ◌-◌, ◌*◌}
 use native.Mathlib.Omega.{arith}
-use lib.ListN.{length, drop, length-drop}
-use lib.Seq.{length-take-le}
+use lib.ListN.{drop}
 use Rattle.bits.specs.Bits.{low_bits, bits_of}
 use Rattle.bits.proofs.BitLaws.{length-low_bits}
 use Rattle.halves.specs.Sources.{heard, by_owner}
 use Rattle.halves.specs.Frame.{frame_by}
 use Rattle.places.specs.Layout.{sc}
 use Rattle.places.proofs.LayoutLaws.{eights_through}
-use Rattle.halves.proofs.WrittenLaws.{second-half, two_frames, even-half, odd-half}
-use borrow.Author.Rules.{rules}
+use Rattle.halves.proofs.WrittenLaws.{two_frames, even-half, odd-half}
 use Rattle.frame.proofs.fill_block.Goals as goal
-
-pub slice_bounds-write_frame-end-2 : goal.slice_bounds-write_frame-end-2
-slice_bounds-write_frame-end-2 c = sym (length-take-le 80 c.args.line.now (omega arith))
-
-pub write_frame-requires : goal.write_frame-requires
-write_frame-requires c = record { frame_len = length-take-le 80 c.args.line.now (omega arith); ready = c.requires.ready }
 
 pub write_frame-requires-2 : goal.write_frame-requires-2
 write_frame-requires-2 c =
     let p = c.args.p in
     let ready = c.requires.ready in
     record {
-      frame_len = search rules;
-      ready = record {
-        apart = ready.apart;
-        spoken = ready.spoken;
-        given = ready.given;
-        from = omega (arith, ready.apart.within);
-        whole = omega arith;
-        on = omega (arith, ready.apart.within, ready.apart.after, ready.apart.until);
-        begun = λ e. omega (arith, eights_through p ready.apart e, ready.apart.until);
-      };
+      apart = ready.apart;
+      spoken = ready.spoken;
+      given = ready.given;
+      from = omega (arith, ready.apart.within);
+      whole = omega arith;
+      on = omega (arith, ready.apart.within, ready.apart.after, ready.apart.until);
+      begun = λ e. omega (arith, eights_through p ready.apart e, ready.apart.until);
     }
 
 pub returns : goal.returns
 returns c =
     let a = c.args in
-    let even = c.write_frame in
-    let odd = c.write_frame-2 in
     let es = low_bits 16 a.service.even in
     let os = low_bits 16 a.service.odd in
     let vs = heard a.mute (bits_of a.voice.now) in
     let ds = bits_of a.lsd.now in
     let sc_is : a.p.last + 1 - a.p.first ≡ sc a.p 80 = omega (arith, c.requires.ready.apart.until) in
-    let e : length even.new.frame ≡ 80 = even.auto.frame ∙ length-take-le 80 a.line.now (omega arith) in
-    second-half even.new.frame (drop 80 a.line.now) odd.new.frame e (simp length-drop (omega arith))
-    ∙ ap₂ ◌++◌ (even.ensures ∙ sym (even-half a.p es os vs ds (length-low_bits 16 a.service.even)))
-    (odd.ensures
+    ap₂ ◌++◌ (c.write_frame.ensures ∙ sym (even-half a.p es os vs ds (length-low_bits 16 a.service.even)))
+    (c.write_frame-2.ensures
     ∙ ap (λ (k : ℕ). frame_by a.p (by_owner os (drop (80 * a.p.width) vs) (drop (80 * a.p.columns + k) ds))) sc_is
     ∙ ap (frame_by a.p) (sym (odd-half a.p es os vs ds c.requires.ready.apart (length-low_bits 16 a.service.even))))
     ∙ sym (two_frames a.p (by_owner (es ++ os) vs ds) (omega arith))

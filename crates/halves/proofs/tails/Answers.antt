@@ -2,7 +2,7 @@
 use mathlib.Core.Path.{◌≡◌, ◌∙◌}
 use Prim.Native.Nat.{◌/◌, ◌%◌, ◌<◌}
 use native.Mathlib.Omega.{arith}
-use lib.ListN.{length, get_or, drop, set, length-set}
+use lib.ListN.{length, get_or, drop}
 use Rattle.bits.specs.Bits.{low_bits, bits_of}
 use Rattle.halves.specs.Parts.{word_at, tail_at}
 use Rattle.halves.proofs.PartLaws.{eight_unserved}
@@ -28,14 +28,6 @@ ended-second-requires c =
     (c.data_eights.ensures 1 (omega arith)) in
     (omega arith, is-second.0, is-second.1)
 
-pub bounds-lanes-1-2 : goal.bounds-lanes-1-2
-bounds-lanes-1-2 c =
-    let call = c.data_eights in
-    let l = call.new.lanes in
-    let long : length l ≡ 10 = call.auto.lanes ∙ c.requires.lanes_len in
-    let inside : 1 < length (set l 0 c.ended-first.result) = rw length-set (omega (arith, long)) in
-    inside
-
 pub returns : goal.returns
 returns c =
     let a = c.args in
@@ -48,7 +40,7 @@ returns c =
     (c.data_eights.ensures 0 (omega arith)) in
     let call = c.data_eights in
     let l = call.new.lanes in
-    let long : length l ≡ 10 = call.auto.lanes ∙ c.requires.lanes_len in
+    let long : length l ≡ 10 = call.array_long in
     let bs = low_bits 16 a.service in
     let ds = drop a.d (bits_of a.lsd.now) in
     two_set l 10 c.ended-first.result c.ended-second.result (word_at (tail_at a.p bs ds)) (omega (arith, long))

@@ -26,12 +26,9 @@ write_sums-requires c =
     let voice = drop a.v (heard a.mute (bits_of a.voice.now)) in
     let lsd = drop a.d (bits_of a.lsd.now) in
     let sum =
-    sums a.p a.service voice lsd (λ k. get_or c.heads.new.lanes k 0) (λ k. get_or c.tails.new.lanes k 0) c.requires.ready.apart c.heads.ensures
+    sums a.p a.service voice lsd (λ k. get_or c.heads.new.lanes k 0) (λ k. get_or c.tails.new.lanes k 0) c.requires.apart c.heads.ensures
     c.tails.ensures in
-    record {
-      frame_len = (c.requires.frame_len, c.heads.auto.lanes, c.tails.auto.lanes);
-      by_index = λ k h. omega (arith, sum k h, word_lt a.p (by_owner (low_bits 16 a.service) voice lsd) k c.requires.ready.apart.within);
-    }
+    λ k h. omega (arith, sum k h, word_lt a.p (by_owner (low_bits 16 a.service) voice lsd) k c.requires.apart.within)
 
 pub returns : goal.returns
 returns c =
@@ -39,7 +36,7 @@ returns c =
     let voice = drop a.v (heard a.mute (bits_of a.voice.now)) in
     let lsd = drop a.d (bits_of a.lsd.now) in
     let sum =
-    sums a.p a.service voice lsd (λ k. get_or c.heads.new.lanes k 0) (λ k. get_or c.tails.new.lanes k 0) c.requires.ready.apart c.heads.ensures
+    sums a.p a.service voice lsd (λ k. get_or c.heads.new.lanes k 0) (λ k. get_or c.tails.new.lanes k 0) c.requires.apart c.heads.ensures
     c.tails.ensures in
     c.write_sums.ensures
-    ∙ words_are a.p (by_owner (low_bits 16 a.service) voice lsd) (λ k. get_or c.heads.new.lanes k 0 + get_or c.tails.new.lanes k 0) c.requires.ready.apart.within sum
+    ∙ words_are a.p (by_owner (low_bits 16 a.service) voice lsd) (λ k. get_or c.heads.new.lanes k 0 + get_or c.tails.new.lanes k 0) c.requires.apart.within sum

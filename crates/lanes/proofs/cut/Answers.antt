@@ -1,30 +1,6 @@
--- `lanes::cut` meets its contract: the loop's invariant: the eights before k are the definition's, and those before a are as they were.
-use mathlib.Core.Path.{refl, ◌∙◌}
-use Prim.Native.Nat.{◌<◌}
-use native.Mathlib.Omega.{arith}
-use lib.ListN.{length, length-set}
-use lib.Seq.{get_or-set_other}
-use Rattle.eights.proofs.RunLaws.{one_laid}
-use Rattle.lanes.proofs.cut.Invariants.{cut_at}
+-- `lanes::cut` meets its contract: the rule gives each eight as it is cut.
+use borrow.Author.Rules.{rules}
 use Rattle.lanes.proofs.cut.Goals as goal
 
-pub loop-k-init : goal.loop-k-init
-loop-k-init c = (omega arith, omega arith, refl, λ j l. refl, λ j f l. absurd (omega arith))
-
-pub loop-k-preserved : goal.loop-k-preserved
-loop-k-preserved c =
-    let a = c.args in
-    let l = c.loop-k in
-    let x = c.cut_eight.result in
-    let inside : l.k < length l.lanes = omega arith in (
-      omega arith,
-      omega arith,
-      simp length-set l.invariant.2,
-      λ j h. get_or-set_other l.lanes l.k j x 0 (λ e. omega arith) ∙ l.invariant.3 j h,
-      one_laid l.lanes a.a l.k x (cut_at a.buffer.now a.d a.first a.last) inside c.cut_eight.ensures l.invariant.4,
-    )
-
 pub returns : goal.returns
-returns c =
-    let l = c.loop-k in
-    (l.invariant.3, λ k f t. l.invariant.4 k f (omega arith))
+returns c = (c.set_eights.ensures.before, λ k f t. search (rules, c.set_eights.ensures.within k f t))

@@ -25,23 +25,21 @@ pub returns-then-w-eq0 : goal.returns-then-w-eq0
 returns-then-w-eq0 c =
     let a = c.args in
     λ k h.
-    let bits = drop (8 * (a.i + k * a.w)) (bits_of a.buffer.now) in
+    let bits = drop (8 * (k * a.w)) (bits_of a.octets.now) in
     c.fill_eights.ensures.1 k (omega arith) h ∙ c.alike.ensures
     ∙ raised_none a.w (8 - a.w) c.ones_above-below.result bits (omega arith)
     ∙ ap (λ (x : ℕ). raised_by a.w (8 - a.w) x bits) c.ones_above-below.ensures
 
-pub lay_fields-requires : goal.lay_fields-requires
-lay_fields-requires c =
-    let is-ones-fit : c.ones_above-below.result < 2 ^ (8 - c.args.w) =
+pub invariant_of-lay_fields : goal.invariant_of-lay_fields
+invariant_of-lay_fields c =
     let a = c.args in
-    rw c.ones_above-below.ensures (above (7 - (a.w + a.c)) (a.c + 1) (8 - a.w) (omega arith)) in
-    record { lanes_len = (c.requires.0, omega arith, omega arith, omega arith, omega arith, is-ones-fit); n_in_bounds = c.requires.2 }
+    record { in_octet = omega arith; below_it = rw c.ones_above-below.ensures (above (7 - (a.w + a.c)) (a.c + 1) (8 - a.w) (omega arith)) }
 
 pub returns : goal.returns
 returns c =
     let a = c.args in
-    let bits = bits_of a.buffer.now in
+    let bits = bits_of a.octets.now in
     λ k h.
     let same : k - 0 ≡ k = omega arith in
     c.lay_fields.ensures.1 k (omega arith) h
-    ∙ ap₂ (λ (x j : ℕ). raised_by a.w (8 - a.w) x (drop (8 * (a.i + j * a.w)) bits)) c.ones_above-below.ensures same
+    ∙ ap₂ (λ (x j : ℕ). raised_by a.w (8 - a.w) x (drop (8 * (j * a.w)) bits)) c.ones_above-below.ensures same

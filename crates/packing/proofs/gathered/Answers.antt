@@ -2,8 +2,6 @@
 use native.Mathlib.Omega.{arith}
 use mathlib.Core.Path.{refl, sym, ap, ◌∙◌}
 use Prim.Native.Nat.{ℕ, ◌+◌, ◌-◌, ◌/◌, ◌^◌, ◌≤◌, ◌<◌}
-use borrow.Author.Tests.{le-leb}
-use lib.ListN.{length}
 use lib.Dec.{lit<}
 use lib.Pow.{pow_mono, pow_pos}
 use Rattle.packing.specs.Lanes.{picked, units}
@@ -31,11 +29,10 @@ joined-requires c =
 
 pub returns : goal.returns
 unfolding units
-returns c =
+returns c line o is =
     let a = c.args in
     let n = a.run.bits in
     let s = a.run.start in
-    let line = a.line.now in
     let two = n + n in
     let four = two + two in
     let r = c.joined.result in
@@ -44,6 +41,5 @@ returns c =
     ∙ c.joined.ensures.1 1 refl
     ∙ c.joined-fours.ensures.1 2 refl
     ∙ c.joined-twos.ensures.1 4 refl
-    ∙ ap (λ (x : ℕ). picked 8 n 8 (x / 2 ^ (8 - (s + n))))
-    (rw (le-leb (a.o + 8) (length line) (omega arith)) at c.whole_eight_at.ensures)
-    ∙ picked-runs s n line a.o 8 (omega arith)
+    ∙ ap (λ (x : ℕ). picked 8 n 8 (x / 2 ^ (8 - (s + n)))) is
+    ∙ picked-runs s n line o 8 (omega arith)

@@ -1,50 +1,37 @@
--- `packing::sort_run` meets its contract. The loop's invariant: the runs of octets from + 1 to o are in the buffer.
-use borrow.Author.Rules.{rules}
+-- `packing::sort_run` meets its contract: what is packed of the part is what is packed of the block.
 use native.Mathlib.Omega.{arith}
-use mathlib.Core.Path.{◌≡◌, sym}
-use mathlib.Core.List.{◌++◌, append-nil}
+use mathlib.Core.Path.{◌≡◌}
+use mathlib.Core.List.{append-nil}
 use Prim.Native.Nat.{◌-◌}
-use Rattle.packing.specs.Filled.{runs}
-use Rattle.packing.proofs.RunsLaws.{runs_on, no_runs}
+use Rattle.packing.proofs.RunsLaws.{no_runs, part_packed}
 use Rattle.packing.proofs.sort_run.Goals as goal
 
-pub returns-then-n-eq0 : goal.returns-then-n-eq0
-returns-then-n-eq0 c =
+pub returns-in-0 : goal.returns-in-0
+returns-in-0 c =
     let a = c.args in
     let none : a.run.bits ≡ 0 = omega arith in
     (omega arith, λ bs h. rw (none, no_runs a.run.start a.line.now a.from (a.to - a.from), append-nil bs) h)
 
--- the octets are there
-pub returns-then-line-to : goal.returns-then-line-to
-returns-then-line-to c = absurd (omega arith)
+pub returns-in-1 : goal.returns-in-1
+returns-in-1 c = part_packed c.args.run.start 1 c.args.line.now (omega arith) c.requires c.sort_width.ensures
 
-pub loop-o-init : goal.loop-o-init
-unfolding runs
-loop-o-init c =
-    let a = c.args in
-    let none : a.from - a.from ≡ 0 = omega arith in
-    (omega arith, omega arith, omega arith, omega arith, search rules, λ bs h. rw (none, append-nil bs) h)
+pub returns-in-2 : goal.returns-in-2
+returns-in-2 c = part_packed c.args.run.start 2 c.args.line.now (omega arith) c.requires c.sort_width-in-2.ensures
 
-pub loop-o-preserved : goal.loop-o-preserved
-loop-o-preserved c =
-    let l = c.loop-o in
-    let a = c.args in
-    let s = a.run.start in
-    let n = a.run.bits in
-    let line = a.line.now in (
-      omega arith,
-      omega arith,
-      omega arith,
-      omega arith,
-      search rules,
-      λ bs h.
-          rw (runs_on bs s n line a.from l.o 8 (omega arith))
-          (c.sort_eight.ensures (bs ++ runs s n line a.from (l.o - a.from)) (l.invariant.5 bs h)),
-    )
+pub returns-in-3 : goal.returns-in-3
+returns-in-3 c = part_packed c.args.run.start 3 c.args.line.now (omega arith) c.requires c.sort_width-in-3.ensures
 
-pub returns : goal.returns
-returns c =
-    let l = c.loop-o in
-    let a = c.args in
-    let e : l.o ≡ a.to = omega arith in
-    (omega arith, λ bs h. rw (sym e) (l.invariant.5 bs h))
+pub returns-in-4 : goal.returns-in-4
+returns-in-4 c = part_packed c.args.run.start 4 c.args.line.now (omega arith) c.requires c.sort_width-in-4.ensures
+
+pub returns-in-5 : goal.returns-in-5
+returns-in-5 c = part_packed c.args.run.start 5 c.args.line.now (omega arith) c.requires c.sort_width-in-5.ensures
+
+pub returns-in-6 : goal.returns-in-6
+returns-in-6 c = part_packed c.args.run.start 6 c.args.line.now (omega arith) c.requires c.sort_width-in-6.ensures
+
+pub returns-in-7 : goal.returns-in-7
+returns-in-7 c = part_packed c.args.run.start 7 c.args.line.now (omega arith) c.requires c.sort_width-in-7.ensures
+
+pub returns-in_default : goal.returns-in_default
+returns-in_default c = part_packed c.args.run.start 8 c.args.line.now (omega arith) c.requires c.sort_width-in_default.ensures

@@ -2,11 +2,15 @@
 use mathlib.Core.Path.{◌≡◌, ap, ◌∙◌}
 use mathlib.Core.Bool.{true}
 use mathlib.Core.List.{List}
+use mathlib.Core.Logic.{◌⊎◌, inl, inr}
 use Prim.Native.Nat.{ℕ}
 use lib.ListN.{length, replicate}
 use Rattle.modes.specs.declared.Mode.{Mode}
 use Rattle.buffers.specs.Buffers.{Each, Buffers, each, lengths}
 use Rattle.buffers.specs.Lengths.{zeroed, fitting}
+use Rattle.reading.specs.Step.{handed_by}
+use Rattle.track.specs.declared.Standing.{Standing}
+use Rattle.track.specs.declared.Standing.TheVariants.{Waiting, Lost}
 use Rattle.buffers.proofs.LengthLaws.{same_each, fit-lengths}
 use Rattle.sorter.specs.Sorting.{streams_of, buffers_after}
 use borrow.Author.Rules.{rules}
@@ -21,11 +25,15 @@ sorted : (m : Mode) (line : List ℕ) (b after : Buffers) → fitting (length li
 unfolding buffers_after
 sorted m line b after f e = e ∙ rw f
 
+-- a block that is waiting or lost hands out zeros
+nothing : (standing : Standing) (m : Mode) (line : List ℕ) → (standing ≡ Waiting) ⊎ (standing ≡ Lost) → handed_by standing m line ≡ zeroed
+nothing standing m line (inl e) = rw e
+nothing standing m line (inr e) = rw e
+
 pub returns-in-Waiting : goal.returns-in-Waiting
-returns-in-Waiting c = rw c.in-Waiting.is (search (rules, zeros))
+returns-in-Waiting c =
+    let a = c.args in
+    rw (nothing a.standing a.mode a.line.now c.in-Waiting.is) (search (rules, zeros))
 
 pub returns-in-Read : goal.returns-in-Read
 returns-in-Read c = rw c.in-Read.is (search (rules, sorted))
-
-pub returns-in-Lost : goal.returns-in-Lost
-returns-in-Lost c = rw c.in-Lost.is (search (rules, zeros))

@@ -1,26 +1,25 @@
--- `reading::read` meets its contract: by its ruling.
-use mathlib.Core.Path.{sym, ◌∙◌}
+-- `reading::read` meets its contract: by the state and the answer of the call.
+use Rattle.std.proofs.Common.{rules}
 use Rattle.buffers.specs.Buffers.{each}
-use Rattle.reading.proofs.OutcomeLaws.{taken, taken-fitting, refused_is, taken_is}
-use Rattle.reader.proofs.StateLaws.{kept}
+use Rattle.reading.specs.Step.{outcome_of}
+use Rattle.reading.proofs.OutcomeLaws.{was_refused, was_taken, told_handed, taken-fitting}
 use Rattle.reading.proofs.read.Goals as goal
 
-pub step-stepped-requires : goal.step-stepped-requires
-step-stepped-requires c =
-    let t = taken _ _ _ (sym c.ruling_of-ruling.ensures ∙ c.in-Accept.is) in
-    let k = kept _ t.range in
-    (k.wrong-low, k.misses_low)
+pub returns-in_err-report : goal.returns-in_err-report
+unfolding outcome_of
+returns-in_err-report c =
+    let a = c.args in
+    let told = was_refused a.state.now a.line.now (each a.voice.now a.lsd.now) c.take.new.state _ (rw c.in_err-report.was at c.take.ensures) in
+    search (rules, told)
 
 pub hand-requires : goal.hand-requires
-hand-requires c = taken-fitting _ _ _ (sym c.ruling_of-ruling.ensures ∙ c.in-Accept.is)
-
-pub returns-in-Refuse : goal.returns-in-Refuse
-returns-in-Refuse c = refused_is _ _ _ _ (sym c.ruling_of-ruling.ensures ∙ c.in-Refuse.is)
-
-pub returns-in-Accept : goal.returns-in-Accept
-returns-in-Accept c =
+unfolding outcome_of
+hand-requires c =
     let a = c.args in
-    taken_is a.state a.line.now (each a.voice.now a.lsd.now) _ _
-    (sym c.ruling_of-ruling.ensures ∙ c.in-Accept.is)
-    c.step-stepped.ensures
-    c.hand.ensures
+    taken-fitting _ _ _ (was_taken a.state.now a.line.now (each a.voice.now a.lsd.now) c.take.new.state _ (rw c.in_ok-report.was at c.take.ensures))
+
+pub returns : goal.returns
+unfolding outcome_of
+returns c =
+    let a = c.args in
+    told_handed a.state.now a.line.now (each a.voice.now a.lsd.now) c.take.new.state _ _ (rw c.in_ok-report.was at c.take.ensures) c.hand.ensures

@@ -44,4 +44,4 @@ returns c =
     let a = c.args in
     let r = a.recording.now in
     block_looked r a.place a.lost a.s is-meets _ _ _
-    (lent-block (a.place + line_octets - a.place) a.place r (omega arith)) c.look-outcome.ensures c.moved_on.ensures
+    (lent-block (a.place + line_octets - a.place) a.place r (omega arith)) c.look-heard.ensures c.moved_on.ensures

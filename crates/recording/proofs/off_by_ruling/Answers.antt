@@ -7,11 +7,5 @@ use Rattle.recording.proofs.off_by_ruling.Goals as goal
 pub seek_or_end-requires : goal.seek_or_end-requires
 seek_or_end-requires c =
     let a = c.args in
-    let g = goes _ _ _ _ (sym c.ruling_of-ruling.ensures ∙ c.in-Accept.is) in
+    let g = goes _ _ _ _ (sym c.ruling_of.ensures ∙ c.in-Ok.is) in
     (g.inside, off_here (length a.recording.now) a.place a.lost c.requires g.small)
-
-pub returns-in-Refuse : goal.returns-in-Refuse
-returns-in-Refuse c = rw (← c.ruling_of-ruling.ensures, c.in-Refuse.is)
-
-pub returns-in-Accept : goal.returns-in-Accept
-returns-in-Accept c = rw (← c.ruling_of-ruling.ensures, c.in-Accept.is) c.seek_or_end.ensures

@@ -46,4 +46,4 @@ returns c =
     let a = c.args in
     let r = a.recording.now in
     block-stepped r a.place a.lost a.s is-meets _ (each a.voice.now a.lsd.now) _ _ _
-    (lent-block (a.place + line_octets - a.place) a.place r (omega arith)) c.read-outcome.ensures c.moved_on.ensures
+    (lent-block (a.place + line_octets - a.place) a.place r (omega arith)) c.read-heard.ensures c.moved_on.ensures

@@ -5,14 +5,14 @@ use Prim.Native.Nat.{◌+◌, ◌<◌}
 use native.Mathlib.Omega.{arith}
 use lib.ListN.{length}
 use Rattle.search.specs.Groups.{first_from}
-use Rattle.search.specs.declared.Found.TheVariants.{Place}
+use Rattle.std.specs.Prelude.{Ok}
 use Rattle.search.proofs.PlaceLaws.{lent-part, first_none, first_step}
 use Rattle.search.proofs.first_from.Goals as goal
 
 pub returns-then-is_aligned : goal.returns-then-is_aligned
 returns-then-is_aligned c =
     let is-by-test : (let a = c.args in
-    first_from a.from a.recording.now ≡ cond c.is_aligned.result (Place c.loop-at.at) (first_from (c.loop-at.at + 1) a.recording.now)) =
+    first_from a.from a.recording.now ≡ cond c.is_aligned.result (Ok c.loop-at.at) (first_from (c.loop-at.at + 1) a.recording.now)) =
     let recording = c.args.recording.now in
     let inside : c.loop-at.at < length recording = omega arith in
     rw (c.is_aligned.ensures, lent-part c.loop-at.at recording) (c.loop-at.invariant ∙ first_step c.loop-at.at recording inside) in
@@ -21,7 +21,7 @@ returns-then-is_aligned c =
 pub loop-at-preserved : goal.loop-at-preserved
 loop-at-preserved c =
     let is-by-test : (let a = c.args in
-    first_from a.from a.recording.now ≡ cond c.is_aligned.result (Place c.loop-at.at) (first_from (c.loop-at.at + 1) a.recording.now)) =
+    first_from a.from a.recording.now ≡ cond c.is_aligned.result (Ok c.loop-at.at) (first_from (c.loop-at.at + 1) a.recording.now)) =
     let recording = c.args.recording.now in
     let inside : c.loop-at.at < length recording = omega arith in
     rw (c.is_aligned.ensures, lent-part c.loop-at.at recording) (c.loop-at.invariant ∙ first_step c.loop-at.at recording inside) in

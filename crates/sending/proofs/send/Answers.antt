@@ -1,25 +1,25 @@
 -- `sending::send` meets its contract: by what is decided.
-use mathlib.Core.Path.{ap, sym, ◌∙◌}
+use mathlib.Core.Path.{sym, ◌∙◌}
+use Rattle.std.proofs.Common.{rules}
 use Rattle.buffers.specs.Buffers.{each}
 use Rattle.frame.proofs.BlockLaws.{written-block}
-use Rattle.control.proofs.GoesLaws.{decision_ruling, goes-fitting}
-use Rattle.control.specs.declared.Decision.{Decision}
+use Rattle.control.proofs.GoesLaws.{goes-fitting}
 use Rattle.sending.specs.Step.{block_for}
-use Rattle.sending.proofs.OutcomeLaws.{told_refused, told_went}
+use Rattle.sending.proofs.OutcomeLaws.{told_refused, told_went, decided-accepts}
 use Rattle.sending.proofs.send.Goals as goal
 
-pub returns-in-Refuse : goal.returns-in-Refuse
-returns-in-Refuse c =
+pub returns-in_err-decided : goal.returns-in_err-decided
+returns-in_err-decided c =
     let a = c.args in
-    told_refused a.state a.call (each a.voice.now a.lsd.now) a.line.now _ _ c.decide-decided.ensures c.in-Refuse.is
+    let told = told_refused a.state.now a.call (each a.voice.now a.lsd.now) a.line.now _ (sym c.decide.ensures ∙ c.in_err-decided.was) in
+    search (rules, told)
 
-pub returns-in-Accept : goal.returns-in-Accept
+pub returns : goal.returns
 unfolding block_for
-returns-in-Accept c =
+returns c =
     let a = c.args in
-    let decided = c.decide-decided.ensures in
-    let goes = c.in-Accept.is in
-    let fits = goes-fitting a.state a.call _ _ (sym (decision_ruling a.state a.call _ _) ∙ ap (λ (d : Decision). d.ruling) (sym decided) ∙ goes) in
-    rw (c.with_remainder-advanced.ensures, c.block_crc.ensures)
-    (told_went a.state a.call (each a.voice.now a.lsd.now) a.line.now _ _ decided goes
+    let decided = sym c.decide.ensures ∙ c.in_ok-decided.was in
+    let fits = goes-fitting a.state.now a.call _ _ (decided-accepts a.state.now a.call (each a.voice.now a.lsd.now) a.line.now _ decided) in
+    rw c.block_crc-remainder.ensures
+    (told_went a.state.now a.call (each a.voice.now a.lsd.now) a.line.now _ _ decided
     (c.write_block.ensures.1 ∙ written-block _ _ _ (each a.voice.now a.lsd.now) a.line.now fits))

@@ -1,6 +1,6 @@
 -- `service::row_in_turn` meets its contract: the loop's invariant: the row is the number of the bits passed.
 use mathlib.Core.Path.{◌≡◌, refl, ap, ap₂, ◌∙◌}
-use Prim.Native.Nat.{ℕ, ◌+◌, ◌-◌, ◌*◌}
+use Prim.Native.Nat.{ℕ, ◌+◌, ◌*◌}
 use native.Mathlib.Omega.{arith}
 use Rattle.bits.specs.Bits.{number}
 use Rattle.service.specs.Channel.{channel_bits}

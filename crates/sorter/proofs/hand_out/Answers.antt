@@ -35,13 +35,14 @@ returns-then-not-lengths_fit c =
     let a = c.args in
     told a.mode a.line.now (each a.voice.now a.lsd.now) false (sym c.lengths_fit.ensures ∙ c.if-not-lengths_fit.true)
 
+pub unwrap-block-requires : goal.unwrap-block-requires
+unwrap-block-requires c = c.as_array.ensures.variant.1 (fit-lengths _ _ (sym c.lengths_fit.ensures ∙ c.if-not-lengths_fit.false)).0
+
 pub sort_voice-requires : goal.sort_voice-requires
 sort_voice-requires c =
     let a = c.args in
-    let fit = fit-lengths _ _ (sym c.lengths_fit.ensures ∙ c.if-not-lengths_fit.false) in
     let l = c.layout_of-p in
-    let apart = apart_by a.mode l.result l.ensures in
-    record { apart = apart; line_len = fit.0 }
+    record { apart = apart_by a.mode l.result l.ensures }
 
 pub sort_lsd-requires : goal.sort_lsd-requires
 sort_lsd-requires c =
@@ -49,7 +50,7 @@ sort_lsd-requires c =
     let fit = fit-lengths _ _ (sym c.lengths_fit.ensures ∙ c.if-not-lengths_fit.false) in
     let l = c.layout_of-p in
     let apart = apart_by a.mode l.result l.ensures in
-    record { apart = apart; line_len = (fit.0, omega (arith, ap (λ (n : Each ℕ). n.lsd) fit.1)) }
+    record { apart = apart; out_len = omega (arith, ap (λ (n : Each ℕ). n.lsd) fit.1) }
 
 pub returns : goal.returns
 unfolding streams_of
@@ -59,10 +60,11 @@ returns c =
     let yes : fitting (length a.line.now) (lengths (each a.voice.now a.lsd.now)) ≡ true =
     sym c.lengths_fit.ensures ∙ c.if-not-lengths_fit.false in
     let fit = fit-lengths _ _ yes in
+    let whole = rw c.unwrap-block.ensures at c.as_array.ensures.cases in
     let said = told a.mode a.line.now (each a.voice.now a.lsd.now) true yes in (
       said.0,
       same_each
-          (by-owner a.mode l.result Voice _ stream_octets.voice a.line.now _ l.ensures (ap (λ (n : Each ℕ). n.voice) fit.1) c.sort_voice.ensures)
-          (by-owner a.mode l.result Lsd _ stream_octets.lsd a.line.now _ l.ensures (ap (λ (n : Each ℕ). n.lsd) fit.1) c.sort_lsd.ensures)
+          (by-owner a.mode l.result Voice _ stream_octets.voice a.line.now _ l.ensures (ap (λ (n : Each ℕ). n.voice) fit.1) (rw whole.same at c.sort_voice.ensures))
+          (by-owner a.mode l.result Lsd _ stream_octets.lsd a.line.now _ l.ensures (ap (λ (n : Each ℕ). n.lsd) fit.1) (rw whole.same at c.sort_lsd.ensures))
           ∙ said.1,
     )

@@ -8,6 +8,6 @@ use Rattle.sorter.proofs.sort_columns.Goals as goal
 pub returns : goal.returns
 returns c =
     let a = c.args in
-    let blank = c.clear in
+    let blank = c.fill in
     let r = c.sort_run in
-    filled_with _ _ _ (length a.out.now) _ (r.ensures.1 [] (cleared (length a.out.now) _ blank.ensures)) (r.auto.out ∙ blank.auto.out) refl
+    filled_with _ _ _ (length a.out.now) _ (r.ensures.1 [] (cleared (length a.out.now) _ (blank.ensures.after (λ y e. e)))) (r.auto.out ∙ blank.auto.self) refl

@@ -1,7 +1,11 @@
 -- `sorter::sort_frame` meets its contract: the octets before data's SC octets, those, and the octets after them have one run each.
 use native.Mathlib.Omega.{arith}
 use mathlib.Core.Logic.{inl, inr}
+use mathlib.Core.Path.{◌≡◌}
 use Prim.Native.Nat.{◌+◌, ◌-◌}
+use borrow.Author.Rules.{rules}
+use lib.ListN.{length}
+use Rattle.buffers.specs.Lengths.{line_octets}
 use Rattle.modes.specs.declared.Owner.TheVariants.{Lsd}
 use Rattle.sorter.specs.Sofar.{sofar}
 use Rattle.sorter.proofs.SortLaws.{lsd-without, lsd_with, whole-eights}
@@ -17,7 +21,7 @@ sort_run-before-requires c =
     let after = h.after in
     let runs = h.runs in
     let until = h.until in
-    (omega arith, omega arith, omega arith, omega arith, omega arith, omega arith)
+    (omega arith, omega arith, omega arith, omega arith, omega arith)
 
 pub sort_run-inside-requires : goal.sort_run-inside-requires
 sort_run-inside-requires c =
@@ -30,7 +34,7 @@ sort_run-inside-requires c =
     let runs = h.runs in
     let until = h.until in
     let before = c.sort_run-before.ensures.0 in
-    (omega arith, omega arith, omega arith, omega arith, omega arith, omega arith)
+    (omega arith, omega arith, omega arith, omega arith, omega arith)
 
 pub sort_run-requires : goal.sort_run-requires
 sort_run-requires c =
@@ -43,7 +47,7 @@ sort_run-requires c =
     let runs = h.runs in
     let until = h.until in
     let inside = c.sort_run-inside.ensures.0 in
-    (omega arith, omega arith, omega arith, omega arith, omega arith, omega arith)
+    (omega arith, omega arith, omega arith, omega arith, omega arith)
 
 pub returns : goal.returns
 returns c =
@@ -54,8 +58,8 @@ returns c =
     let after = h.after in
     let runs = h.runs in
     let until = h.until in
-    let whole = c.requires.p_value.1 in
-    let even = c.requires.p_value.2 in
+    let whole : length line ≡ line_octets = search rules in
+    let even = c.requires.p_value.1 in
     let a = from + (p.first - 1) in
     let b = from + p.last in
     let r1 = c.sort_run-before in

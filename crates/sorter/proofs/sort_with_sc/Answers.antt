@@ -4,6 +4,7 @@ use mathlib.Core.Path.{◌≡◌, refl, sym, subst, ap, ◌∙◌}
 use mathlib.Core.Bool.{Bool}
 use mathlib.Core.List.{List}
 use Prim.Native.Nat.{ℕ, ◌+◌, ◌-◌}
+use borrow.Author.Rules.{rules}
 use lib.ListN.{length, replicate}
 use Rattle.bits.specs.Bits.{bits_of}
 use Rattle.modes.specs.declared.Owner.{Owner}
@@ -24,11 +25,11 @@ pub returns-then-in_eights : goal.returns-then-in_eights
 returns-then-in_eights c =
     let a = c.args in
     let line = a.line.now in
-    let blank = c.clear in
+    let blank = c.fill in
     let even = c.sort_frame-half in
     let odd = c.sort_frame in
-    filled_with (sofar a.p Lsd line line_octets) _ _ (length a.out.now) _ (odd.ensures.1 (even.ensures.1 (begun a.p line _ (length a.out.now) blank.ensures)))
-    (odd.auto.out ∙ even.auto.out ∙ blank.auto.out)
+    filled_with (sofar a.p Lsd line line_octets) _ _ (length a.lsd.now) _ (odd.ensures.1 (even.ensures.1 (begun a.p line _ (length a.lsd.now) (blank.ensures.after (λ y e. e)))))
+    (odd.auto.out ∙ even.auto.out ∙ blank.auto.self)
     (ap (λ (ps : List Owner). sort Lsd ps (bits_of line)) (block_all a.p))
 
 pub returns : goal.returns
@@ -38,14 +39,15 @@ returns c =
     let h = c.requires.apart in
     let after = h.after in
     let line = a.line.now in
+    let whole : length line ≡ line_octets = search rules in
     let none = bits_alone p h (sym c.in_eights.ensures ∙ c.if-in_eights.false) in
-    let blank = c.clear in
+    let blank = c.fill in
     let even = c.sort_bits-half in
     let odd = c.sort_bits in
-    filled_with (sofar p Lsd line line_octets) _ odd.result (length a.out.now) odd.new.out
-    (rw (lsd-bits p line 80 (p.first + 79) (p.last + 80) h none c.requires.line_len.0 refl (omega arith) (omega arith) (omega arith))
+    filled_with (sofar p Lsd line line_octets) _ odd.result (length a.lsd.now) odd.new.out
+    (rw (lsd-bits p line 80 (p.first + 79) (p.last + 80) h none whole refl (omega arith) (omega arith) (omega arith))
     (odd.ensures.1 (sofar p Lsd line 80)
-    (rw (lsd-bits p line 0 (p.first - 1) p.last h none c.requires.line_len.0 refl (omega arith) (omega arith) (omega arith))
-    (even.ensures.1 (sofar p Lsd line 0) (begun p line _ (length a.out.now) blank.ensures)))))
-    (odd.auto.out ∙ even.auto.out ∙ blank.auto.out)
+    (rw (lsd-bits p line 0 (p.first - 1) p.last h none whole refl (omega arith) (omega arith) (omega arith))
+    (even.ensures.1 (sofar p Lsd line 0) (begun p line _ (length a.lsd.now) (blank.ensures.after (λ y e. e)))))))
+    (odd.auto.out ∙ even.auto.out ∙ blank.auto.self)
     (ap (λ (ps : List Owner). sort Lsd ps (bits_of line)) (block_all p))

@@ -1,7 +1,0 @@
--- `saving::is_sender_form` meets its contract: there is one form.
-use mathlib.Core.Path.{sym}
-use mathlib.Core.Bool.{or-false}
-use Rattle.saving.proofs.is_sender_form.Goals as goal
-
-pub returns : goal.returns
-returns c = sym (or-false _)
