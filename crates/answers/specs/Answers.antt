@@ -10,7 +10,7 @@ use Rattle.track.specs.declared.Report.{Report}
 use Rattle.reading.specs.Refusals as reading
 use Rattle.search.specs.Finding.{Found, found_number, found_place}
 use Rattle.recording.specs.Refusals as walking
-use Rattle.recording.specs.declared.Answer as walked
+use Rattle.recording.specs.declared.Met.TheVariants.{Block, Place, End}
 use Rattle.answers.specs.declared.SendAnswer.{SendAnswer}
 use Rattle.answers.specs.declared.BlockAnswer.{BlockAnswer}
 use Rattle.answers.specs.declared.ReadAnswer.{ReadAnswer}
@@ -58,7 +58,7 @@ abbrev pub search_answer_of : Found → SearchAnswer
 search_answer_of f = record { place = found_place f; number = found_number f; reserved = reserved_octets 7 }
 
 -- that of a walk's step
-abbrev pub step_answer_of : walked.Answer → StepAnswer
+abbrev pub step_answer_of : walking.Answer → StepAnswer
 step_answer_of a =
     record {
       value = walking.value_in a;
@@ -68,8 +68,8 @@ step_answer_of a =
       reserved = reserved_octets 2;
     }
   where
-    block : walked.Answer → BlockAnswer
-    block (walked.TheVariants.Block report) = block_answer_of report
-    block (walked.TheVariants.Place p) = nothing_read
-    block (walked.TheVariants.End left) = nothing_read
-    block (walked.TheVariants.Refused r) = nothing_read
+    block : walking.Answer → BlockAnswer
+    block (Ok (Block report)) = block_answer_of report
+    block (Ok (Place p)) = nothing_read
+    block (Ok (End left)) = nothing_read
+    block (Err r) = nothing_read

@@ -9,7 +9,7 @@ ghost use Rattle.answers.specs.Answers.{send_answer_of, block_answer_of, nothing
 ghost use Rattle.answers.specs.Answers.{read_answer_of, search_answer_of, step_answer_of};
 
 use control::Went;
-use recording::Answer;
+use recording::Met;
 use refusals::Refusal;
 use track::{Report, Standing, Verdict};
 use words::Reading;
@@ -183,10 +183,10 @@ impl From<Result<usize, Refusal>> for SearchAnswer {
 }
 
 // The answer of a walk's step.
-impl From<Answer> for StepAnswer {
+impl From<Result<Met, Refusal>> for StepAnswer {
     ghost from_gives = { λ answer told. told ≡ step_answer_of answer };
 
-    fn from(answer: Answer) -> StepAnswer {
+    fn from(answer: Result<Met, Refusal>) -> StepAnswer {
         let blank = StepAnswer {
             value: 0,
             kind: 0,
@@ -195,21 +195,21 @@ impl From<Answer> for StepAnswer {
             reserved: [0; 2],
         };
         match answer {
-            Answer::Block(report) => StepAnswer {
+            Ok(Met::Block(report)) => StepAnswer {
                 block: BlockAnswer::from(report),
                 ..blank
             },
-            Answer::Place(place) => StepAnswer {
+            Ok(Met::Place(place)) => StepAnswer {
                 value: place,
                 kind: 1,
                 ..blank
             },
-            Answer::End(left) => StepAnswer {
+            Ok(Met::End(left)) => StepAnswer {
                 value: left,
                 kind: 2,
                 ..blank
             },
-            Answer::Refused(why) => StepAnswer {
+            Err(why) => StepAnswer {
                 kind: 3,
                 number: u8::from(why),
                 ..blank

@@ -14,6 +14,7 @@ use answers::{ReadAnswer, SendAnswer, StepAnswer};
 use control::Call;
 use keeping::WalkState;
 use reader::Reader;
+use recording::Stand;
 use sender::Sender;
 
 // A switch of C. It is an octet, for a bool that holds neither 0 nor 1 is undefined in C, and here
@@ -91,14 +92,12 @@ pub fn walk_step(
     ensures { (walk_stepped state.new result ≡ step_taken state.old recording.now (each voice.old lsd.old))
         × (each voice.new lsd.new ≡ step_buffers state.old recording.now (each voice.old lsd.old)) }
 {
-    let found = *state;
-    let lost = is_on(found.lost);
-    let stepped = walk::step_from(recording, found.place, lost, found.reader, voice, lsd);
-    *state = WalkState {
-        place: stepped.place,
-        reader: stepped.reader,
-        lost: mark_after(found.lost, stepped.lost),
-        ..found
+    let mut stand = Stand {
+        place: state.place,
+        lost: is_on(state.lost),
     };
-    StepAnswer::from(stepped.answer)
+    let answer = walk::step_from(recording, &mut stand, &mut state.reader, voice, lsd);
+    state.place = stand.place;
+    state.lost = mark_after(state.lost, stand.lost);
+    StepAnswer::from(answer)
 }

@@ -5,7 +5,7 @@
 
 use modes::{Mode, Owner};
 use reader::Reader;
-use recording::{Answer, Stepped};
+use recording::{Met, Stand};
 use std::io;
 use track::{Report, Standing};
 
@@ -29,36 +29,28 @@ fn write_voice(out: &impl Print, mode: Mode, voice: &[u8; buffers::VOICE]) -> io
     }
 }
 
-// Walks from a place that was found, as after a step that answers it. A recording has more octets
-// than a walk over it has steps.
+// Walks from a place that was found. A recording has more octets than a walk over it has steps.
 fn walked(out: &impl Print, recording: &[u8], start: usize) -> io::Result<()> {
-    let mut stepped = Stepped {
-        answer: Answer::Place(start),
-        reader: Reader::fresh(),
+    let mut stand = Stand {
         place: start,
         lost: false,
     };
+    let mut reader = Reader::fresh();
     for _ in recording {
         let mut voice = [0u8; buffers::VOICE];
         let mut lsd = [0u8; buffers::LSD];
-        let reader = stepped.reader;
-        stepped = walk::step_from(
-            recording,
-            stepped.place,
-            stepped.lost,
-            reader,
-            &mut voice,
-            &mut lsd,
-        );
-        match stepped.answer {
-            Answer::Block(
-                Report {
-                    standing: Standing::Read,
-                    ..
-                },
-            ) => write_voice(out, reader.mode, &voice)?,
-            Answer::Block(_) | Answer::Place(_) => {}
-            Answer::End(_) | Answer::Refused(_) => break,
+        let mode = reader.mode;
+        match walk::step_from(recording, &mut stand, &mut reader, &mut voice, &mut lsd) {
+            Ok(
+                Met::Block(
+                    Report {
+                        standing: Standing::Read,
+                        ..
+                    },
+                ),
+            ) => write_voice(out, mode, &voice)?,
+            Ok(Met::Block(_) | Met::Place(_)) => {}
+            Ok(Met::End(_)) | Err(_) => break,
         }
     }
     Ok(())

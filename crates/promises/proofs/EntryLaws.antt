@@ -21,11 +21,10 @@ use Rattle.reading.specs.Refusals as reader-list
 use Rattle.reading.specs.Step as reading
 use Rattle.reading.proofs.OutcomeLaws.{told, look-read}
 use Rattle.recording.specs.Refusals as walk-list
-use Rattle.recording.specs.Walk.{step_at}
-use Rattle.recording.specs.declared.Answer as walked
+use Rattle.recording.specs.Walk.{Stepped, step_at}
+use Rattle.recording.specs.declared.Met.TheVariants.{Block, Place, End}
 use Rattle.recording.proofs.StepLaws.{look-step}
 use Rattle.walk.specs.declared.Walk.{Walk}
-use Rattle.walk.specs.declared.Onward.{Onward}
 use Rattle.wording.specs.Lines.{number_line}
 use Rattle.scribe.specs.Listing.{listing_by, listing_of}
 use Rattle.scribe.proofs.ListingLaws.{listing-ends}
@@ -68,21 +67,21 @@ walk-looking recording place lost s r e =
     record { ordered = refl; exact = t.exact; kept = λ h. let k = t.kept h in (k.0, k.1, k.2) }
 
 -- ---- the walk's functions: what they give is what the step gives, with the walk where the step leaves it
-moved : (w : Walk) (place : ℕ) (lost : Bool) → place ≡ w.place → lost ≡ w.lost
-    → record { recording = w.recording; place = place; lost = lost } ≡ w
-moved w place lost p l = λ i. record { recording = w.recording; place = p i; lost = l i }
+moved : (w : Walk) (place : ℕ) (lost : Bool) → place ≡ w.stand.place → lost ≡ w.stand.lost
+    → record { recording = w.recording; stand = record { place = place; lost = lost } } ≡ w
+moved w place lost p l = λ i. record { recording = w.recording; stand = record { place = p i; lost = l i } }
 
 pub step_of_walk : StepOfWalk
-step_of_walk w s b r out e f =
-    refuses_as (stepping_refuses w.recording.now w.place w.lost s b _ out refl f)
-    (ap (λ (o : Onward). walk-list.number_in o.answer) e)
-    (λ k. (ap (λ (o : Onward). o.walk) e ∙ moved w _ _ k.1 k.2, ap (λ (o : Onward). o.reader) e ∙ k.0, k.3))
+step_of_walk w v s n b r out e t f =
+    refuses_as (stepping_refuses w.recording.now w.stand.place w.stand.lost s b _ out refl f)
+    (ap (λ (o : Stepped). walk-list.number_in o.answer) t)
+    (λ k. (e ∙ moved w _ _ k.1 k.2, ap (λ (o : Stepped). o.reader) t ∙ k.0, k.3))
 
 pub look_of_walk : LookOfWalk
-look_of_walk w s r e =
-    refuses_as (walk-looking w.recording.now w.place w.lost s _ refl)
-    (ap (λ (o : Onward). walk-list.number_in o.answer) e)
-    (λ k. (ap (λ (o : Onward). o.walk) e ∙ moved w _ _ k.1 k.2, ap (λ (o : Onward). o.reader) e ∙ k.0))
+look_of_walk w v s n r e t =
+    refuses_as (walk-looking w.recording.now w.stand.place w.stand.lost s _ refl)
+    (ap (λ (o : Stepped). walk-list.number_in o.answer) t)
+    (λ k. (e ∙ moved w _ _ k.1 k.2, ap (λ (o : Stepped). o.reader) t ∙ k.0))
 
 -- ---- a kind says that a call is refused exactly where its number is not 0
 kind-sent : (a : sender-list.Answer) → eqb (sender-list.kind_of a) 2 ≡ not (eqb (sender-list.number_in a) 0)
@@ -94,11 +93,11 @@ kind-read : (a : reader-list.Answer) → eqb (reader-list.kind_of a) 1 ≡ not (
 kind-read (Ok report) = refl
 kind-read (Err r) = rw (numbered r)
 
-kind-walked : (a : walked.Answer) → eqb (walk-list.kind_of a) 3 ≡ not (eqb (walk-list.number_in a) 0)
-kind-walked (walked.TheVariants.Block report) = refl
-kind-walked (walked.TheVariants.Place p) = refl
-kind-walked (walked.TheVariants.End left) = refl
-kind-walked (walked.TheVariants.Refused r) = rw (numbered r)
+kind-walked : (a : walk-list.Answer) → eqb (walk-list.kind_of a) 3 ≡ not (eqb (walk-list.number_in a) 0)
+kind-walked (Ok (Block report)) = refl
+kind-walked (Ok (Place p)) = refl
+kind-walked (Ok (End left)) = refl
+kind-walked (Err r) = rw (numbered r)
 
 tells_as : {k n m : ℕ} (kind refused : ℕ) → kind ≡ k → n ≡ m → eqb k refused ≡ not (eqb m 0) → eqb kind refused ≡ not (eqb n 0)
 tells_as kind refused e f h = rw (e, f) h

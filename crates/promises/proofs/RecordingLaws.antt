@@ -10,6 +10,7 @@ use lib.ListN.{length, get_or, take, drop, length-append, length-drop, get_or-ap
 use lib.Seq.{take_at, drop_at, drop-drop, get_or-append-add, drop-append_seam}
 use borrow.Author.Tests.{eq-eqb, le-leb, le-ltb, leb-true}
 use Rattle.std.specs.Prelude.{Ok}
+use Rattle.track.specs.declared.Report.{Report}
 use Rattle.bits.specs.Bits.{sc_bit, number, xors}
 use Rattle.bits.proofs.BoolLaws.{and_left, and_right}
 use Rattle.bas.specs.Reading.{weight}
@@ -32,9 +33,9 @@ use Rattle.words.specs.declared.Reading.TheVariants.{NotRead}
 use Rattle.reading.proofs.OutcomeLaws.{takes, told_handed}
 use Rattle.track.proofs.RangeLaws.{step_in_range}
 use Rattle.recording.specs.Walk.{left_from, block_at, is_lost, buffers_by, stepped_by, answer_at, step_at, look_at, buffers_at}
-use Rattle.recording.specs.declared.Answer.{Answer}
-use Rattle.recording.specs.declared.Answer.TheVariants.{Block}
-use Rattle.recording.specs.declared.Stepped.{Stepped}
+use Rattle.recording.specs.Refusals.{Answer}
+use Rattle.recording.specs.declared.Met.TheVariants.{Block}
+use Rattle.recording.specs.Walk.{Stepped}
 use Rattle.recording.proofs.StepLaws.{look-step, rules_go}
 use Rattle.buffers.specs.Buffers.{Buffers, lengths}
 use Rattle.buffers.specs.Lengths.{line_octets, stream_octets, zeroed}
@@ -189,7 +190,7 @@ module _ (recording : List ℕ) (place : ℕ) (r : Reader) (e : Entry) (rest : L
     abbrev p : tracking.Stepped
     p = step_of r (signs_of (block_sent e))
 
-    answered : (b : Buffers) → lengths b ≡ stream_octets → answer_at recording place false r b ≡ Block p.report
+    answered : (b : Buffers) → lengths b ≡ stream_octets → answer_at recording place false r b ≡ Ok (Block p.report)
     unfolding answer_at
     answered b fit =
         let go = rules_go (length recording) place r (lengths b) (record { range = range; streams = fit; small = small; inside = omega (arith, block_inside) }) in
@@ -201,7 +202,7 @@ module _ (recording : List ℕ) (place : ℕ) (r : Reader) (e : Entry) (rest : L
         let a = answered b fit in
         let is = p.report in
         let x-is = ex ∙ ap (λ (q : Answer). stepped_by q recording place false r) a
-        ∙ ap (λ (l : List ℕ). record { answer = Block is; reader = (step_of r (signs_of l)).state; place = place + line_octets; lost = is_lost is }) block_here in
+        ∙ ap (λ (l : List ℕ). record { answer = Ok (Block is); reader = (step_of r (signs_of l)).state; place = place + line_octets; lost = is_lost is }) block_here in
         let out-is = eb ∙ ap (λ (q : Answer). buffers_by q recording place r b) a ∙ ap (reading.handed_by is.standing r.mode) block_here in
         let fits = takes r _ _ (record { range = range; line-fits = framed.length; streams = fit }) in
         let state = ap (λ (y : Stepped). y.reader) x-is in
@@ -248,7 +249,7 @@ all_steps_back recording (e ∷ es) place r a b = (
       let back = b.0.hands c _ out fit read.told in
       let told = back.answer in
       let same : read.report ≡ back.report = cc in
-      record { outcome = _; back = back; answer = read.answer ∙ ap Block same },
+      record { outcome = _; back = back; answer = read.answer ∙ ap (λ (x : Report). Ok (Block x)) same },
   all_steps_back recording es (place + line_octets) (reader_after r e) a.1 b.1,
 )
 

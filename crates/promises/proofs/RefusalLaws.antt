@@ -23,7 +23,7 @@ use Rattle.reader.specs.declared.Reader.{Reader}
 use Rattle.search.specs.Finding as finding
 use Rattle.recording.specs.Refusals as walk-list
 use Rattle.recording.specs.Walk as walk
-use Rattle.recording.specs.declared.Answer.TheVariants.{End}
+use Rattle.recording.specs.declared.Met.TheVariants.{End}
 use Rattle.buffers.specs.Buffers.{Buffers, lengths}
 use Rattle.buffers.specs.Lengths.{line_octets}
 use Rattle.promises.specs.Demand1.{first, sending_rows, Sending, Reading, somewhere, Searching, Stepping, ReadingPreset, WritingPreset}
@@ -99,7 +99,7 @@ module _ (recording : List ℕ) (place : ℕ) (lost : Bool) (s : Reader) where
   here_number = go lost (finding.search_of recording place) (ltb (walk.left_from recording place) line_octets)
     where
       go : (l : Bool) (f : finding.Found) (few : Bool)
-          → walk-list.number_in (cond l (walk.found_again f (walk.left_from recording place)) (cond few (End (walk.left_from recording place)) (walk.block_read s recording place))) ≡ 0
+          → walk-list.number_in (cond l (walk.found_again f (walk.left_from recording place)) (cond few (Ok (End (walk.left_from recording place))) (walk.block_read s recording place))) ≡ 0
       go true (Ok p) few = refl
       go true (Err why) few = refl
       go false f true = refl

@@ -22,7 +22,7 @@ use Rattle.reader.specs.declared.Reader.{Reader}
 use Rattle.search.specs.Finding as finding
 use Rattle.recording.specs.Refusals as walk-list
 use Rattle.recording.specs.Walk.{step_at, buffers_at}
-use Rattle.recording.specs.declared.Stepped.{Stepped}
+use Rattle.recording.specs.Walk.{Stepped}
 
 -- a row of the list: its number, and whether it is given
 pub record Row : Type 0 where

@@ -12,11 +12,9 @@ use Rattle.reading.specs.Refusals as reader-list
 use Rattle.reading.specs.Step as reading
 use Rattle.reader.specs.declared.Reader.{Reader}
 use Rattle.recording.specs.Refusals as walk-list
-use Rattle.recording.specs.Walk.{step_at, look_at, buffers_at}
-use Rattle.recording.specs.declared.Stepped.{Stepped}
+use Rattle.recording.specs.Walk.{Stepped, stepped, step_at, look_at, buffers_at}
 use Rattle.walk.specs.Walks.{onward}
 use Rattle.walk.specs.declared.Walk.{Walk}
-use Rattle.walk.specs.declared.Onward.{Onward}
 use Rattle.wording.specs.Lines.{number_line}
 use Rattle.scribe.specs.Listing.{listing_of}
 use Rattle.buffers.specs.Buffers.{Buffers}
@@ -53,15 +51,17 @@ WalkLooking = (recording : List ℕ) (place : ℕ) (lost : Bool) (s : Reader) (r
 -- ---- `walk::step` and `looking::look`, over a walk that holds its recording. `walk::step_from` has the contract of `recording::step`, so
 -- `Stepping` is said of it too
 abbrev pub StepOfWalk : Type 0
-StepOfWalk = (w : Walk) (s : Reader) (b : Buffers) (r : Onward) (out : Buffers)
-    → r ≡ onward w (step_at w.recording.now w.place w.lost s b)
-    → out ≡ buffers_at w.recording.now w.place w.lost s b
-    → Refuses (walk-list.number_in r.answer) (stepping_rows w.recording.now w.place s b)
-    ((r.walk ≡ w) × (r.reader ≡ s) × (out ≡ b))
+StepOfWalk = (w v : Walk) (s n : Reader) (b : Buffers) (r : walk-list.Answer) (out : Buffers)
+    → v ≡ onward w (step_at w.recording.now w.stand.place w.stand.lost s b)
+    → stepped v.stand n r ≡ step_at w.recording.now w.stand.place w.stand.lost s b
+    → out ≡ buffers_at w.recording.now w.stand.place w.stand.lost s b
+    → Refuses (walk-list.number_in r) (stepping_rows w.recording.now w.stand.place s b) ((v ≡ w) × (n ≡ s) × (out ≡ b))
 
 abbrev pub LookOfWalk : Type 0
-LookOfWalk = (w : Walk) (s : Reader) (r : Onward) → r ≡ onward w (look_at w.recording.now w.place w.lost s)
-    → Refuses (walk-list.number_in r.answer) (walking_rows w.recording.now w.place s) ((r.walk ≡ w) × (r.reader ≡ s))
+LookOfWalk = (w v : Walk) (s n : Reader) (r : walk-list.Answer)
+    → v ≡ onward w (look_at w.recording.now w.stand.place w.stand.lost s)
+    → stepped v.stand n r ≡ look_at w.recording.now w.stand.place w.stand.lost s
+    → Refuses (walk-list.number_in r) (walking_rows w.recording.now w.stand.place s) ((v ≡ w) × (n ≡ s))
 
 -- ---- the exported calls. A call in C answers a kind and a number: it refuses as `Refuses` says, and its kind is that of a refusal exactly then
 pub record RefusesInC (kind refused n : ℕ) (rows : List Row) (untouched : Type 0) : Type 0 where

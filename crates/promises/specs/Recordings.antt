@@ -15,8 +15,8 @@ use Rattle.track.specs.declared.Report.{Report}
 use Rattle.buffers.specs.Buffers.{Buffers, lengths}
 use Rattle.buffers.specs.Lengths.{line_octets, stream_octets}
 use Rattle.recording.specs.Walk.{step_at, look_at, buffers_at}
-use Rattle.recording.specs.declared.Answer.TheVariants.{Block}
-use Rattle.recording.specs.declared.Stepped.{Stepped}
+use Rattle.recording.specs.declared.Met.TheVariants.{Block}
+use Rattle.recording.specs.Walk.{Stepped}
 use Rattle.promises.specs.Session.{Turn, Entry, log, block_sent}
 use Rattle.promises.specs.Demand2.{InStep, Waits, EightBits, reader_after, HandedBack, until_six, sender_on}
 
@@ -65,7 +65,7 @@ FindsAlignment = (s : Sender) (xs : List Turn) (before more : List ℕ)
 -- the block leaves it, and stands at the block's end, with nothing lost
 pub record AsRead (place : ℕ) (r : Reader) (e : Entry) (b : Buffers) (x : Stepped) (out : Buffers) : Type 0 where
   pub report : Report
-  pub answer : x.answer ≡ Block report
+  pub answer : x.answer ≡ Ok (Block report)
   pub told : reading.Told r (block_sent e) b (reading.outcome x.reader (Ok report)) out
   pub state : x.reader ≡ reader_after r e
   pub stands : x.place ≡ place + line_octets
@@ -93,7 +93,7 @@ WalksAsRead = (s : Sender) (r : Reader) (xs : List Turn) (before more : List ℕ
 pub record StepBack (e : Entry) (r : Reader) (x : Stepped) (out : Buffers) : Type 0 where
   pub outcome : reading.Outcome
   pub back : HandedBack e r outcome out
-  pub answer : x.answer ≡ Block back.report
+  pub answer : x.answer ≡ Ok (Block back.report)
 
 abbrev pub AllStepsBack : List ℕ → ℕ → Reader → List Entry → Type 0
 AllStepsBack recording place r [] = Unit {0}

@@ -24,12 +24,10 @@ use Rattle.reading.specs.Step.{Outcome}
 use Rattle.reading.specs.Refusals as judged
 use Rattle.search.specs.Finding.{Found, search_of}
 use Rattle.search.proofs.PlaceLaws.{found-fits}
-use Rattle.recording.specs.Refusals.{rows, ruling_of}
-use Rattle.recording.specs.Walk.{left_from, block_at, block_read, found_again, answer_here, answer_by, place_by, reader_by, stepped_by, buffers_by, answer_at, step_at, buffers_at, look_at}
+use Rattle.recording.specs.Refusals.{Answer, rows, ruling_of}
+use Rattle.recording.specs.Walk.{Stepped, left_from, block_at, block_read, found_again, answer_here, answer_by, place_by, reader_by, stepped_by, buffers_by, answer_at, step_at, buffers_at, look_at}
 use Rattle.recording.specs.Inner.{off_block, meets_none, moved_by, ruled_at}
-use Rattle.recording.specs.declared.Answer.{Answer}
-use Rattle.recording.specs.declared.Answer.TheVariants.{Block, Place, End, Refused}
-use Rattle.recording.specs.declared.Stepped.{Stepped}
+use Rattle.recording.specs.declared.Met.TheVariants.{Block, Place, End}
 
 -- ---- by the ruling
 module _ (recording : List ℕ) (place : ℕ) (lost : Bool) (s : Reader) (b : Buffers) where
@@ -109,7 +107,7 @@ module _ (recording : List ℕ) (place : ℕ) (lost : Bool) (s : Reader) (m : Me
 
 -- ---- a step that meets no block leaves the buffers
 pub untouched : (block : Answer) (left place : ℕ) (recording : List ℕ) (s : Reader) (b : Buffers) (lost few : Bool) (f : Found) → (lost || few) ≡ true
-    → b ≡ buffers_by (cond lost (found_again f left) (cond few (End left) block)) recording place s b
+    → b ≡ buffers_by (cond lost (found_again f left) (cond few (Ok (End left)) block)) recording place s b
 untouched block left place recording s b true few (Ok p) e = refl
 untouched block left place recording s b true few (Err r) e = refl
 untouched block left place recording s b false true f e = refl
@@ -162,10 +160,10 @@ look_here recording place lost s g = rw (rules_go (length recording) place s str
 -- ---- a step leaves the reader's state in range, and the walk in the recording
 module _ (recording : List ℕ) (place : ℕ) (s : Reader) where
   pub reader_in_range : (a : Answer) → state_in_range s ≡ true → state_in_range (reader_by a recording place s) ≡ true
-  reader_in_range (Block report) r = step_in_range s (block_at recording place) r
-  reader_in_range (Place p) r = r
-  reader_in_range (End left) r = r
-  reader_in_range (Refused why) r = r
+  reader_in_range (Ok (Block report)) r = step_in_range s (block_at recording place) r
+  reader_in_range (Ok (Place p)) r = r
+  reader_in_range (Ok (End left)) r = r
+  reader_in_range (Err why) r = r
 
   -- after the search: at the place found, or where it was
   again_inside : (f : Found) → search_of recording place ≡ f → place ≤ length recording
@@ -178,6 +176,6 @@ module _ (recording : List ℕ) (place : ℕ) (s : Reader) where
   place_inside false h = go (ltb (left_from recording place) line_octets) refl
     where
       go : (b : Bool) → ltb (left_from recording place) line_octets ≡ b
-          → place_by (cond b (End (left_from recording place)) (block_read s recording place)) place ≤ length recording
+          → place_by (cond b (Ok (End (left_from recording place))) (block_read s recording place)) place ≤ length recording
       go true e = h
       go false e = let l = ltb-false (left_from recording place) line_octets e in omega arith

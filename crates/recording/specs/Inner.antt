@@ -7,9 +7,8 @@ use Rattle.reader.specs.declared.Reader.{Reader}
 use Rattle.reading.specs.Refusals as heard
 use Rattle.reading.specs.Step as told
 use Rattle.recording.specs.Refusals.{ruling_of}
-use Rattle.recording.specs.Walk.{answer_by, is_lost, stepped_by}
-use Rattle.recording.specs.declared.Answer.TheVariants.{Block, Refused}
-use Rattle.recording.specs.declared.Stepped.{Stepped}
+use Rattle.recording.specs.Walk.{Stepped, answer_by, is_lost, stepped_by}
+use Rattle.recording.specs.declared.Met.TheVariants.{Block}
 
 -- a step meets no block after a lost one, and none at the end
 abbrev pub off_block : ℕ → ℕ → Bool → Bool
@@ -25,8 +24,8 @@ moved_by o place lost = by o.answer
   where
     by : heard.Answer → Stepped
     by (Ok report) =
-        record { answer = Block report; reader = o.state; place = place + line_octets; lost = is_lost report }
-    by (Err why) = record { answer = Refused why; reader = o.state; place = place; lost = lost }
+        record { answer = Ok (Block report); reader = o.state; place = place + line_octets; lost = is_lost report }
+    by (Err why) = record { answer = Err why; reader = o.state; place = place; lost = lost }
 
 -- a step with buffers of these lengths, beside what it leaves in them
 abbrev pub ruled_at : List ℕ → ℕ → Bool → Reader → Each ℕ → Stepped

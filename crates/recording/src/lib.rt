@@ -6,27 +6,24 @@ ghost use Rattle.buffers.specs.Buffers.{each};
 ghost use Rattle.search.specs.Finding.{search_of};
 ghost use Rattle.reading.specs.Step.{outcome};
 ghost use Rattle.recording.specs.Refusals.{ruling_of};
-ghost use Rattle.recording.specs.Walk.{left_from, found_again, is_lost, answer_here, stepped_by, step_at, buffers_at, look_at};
+ghost use Rattle.recording.specs.Walk.{left_from, found_again, is_lost, answer_here, stepped, stepped_by, step_at, buffers_at, look_at};
 ghost use Rattle.recording.specs.Inner.{off_block, meets_none, moved_by, ruled_at};
 
 use reader::Reader;
 use refusals::Refusal;
 use track::{Report, Standing};
 
-// A block as the reader answers it, the place where alignment was found again, or the end and the octets left.
+// What a step meets: a block as the reader answers it, the place where alignment was found again, or the end and the octets left.
 #[derive(Clone, Copy, Debug, PartialEq, Eq)]
-pub enum Answer {
+pub enum Met {
     Block(Report),
     Place(usize),
     End(usize),
-    Refused(Refusal),
 }
 
-// The answer, the reader's state, and where the walk stands: its place, and whether the block before it was lost.
+// Where a walk stands in its recording: its place, and whether the block before it was lost.
 #[derive(Clone, Copy, Debug, PartialEq, Eq)]
-pub struct Stepped {
-    pub answer: Answer,
-    pub reader: Reader,
+pub struct Stand {
     pub place: usize,
     pub lost: bool,
 }
@@ -52,44 +49,29 @@ fn is_lost(report: Report) -> bool
 }
 
 // The walk after the reader's answer to the block at its place: at the block's end, or where it was if the reader refused.
-fn moved_on(heard: Result<Report, Refusal>, reader: Reader, place: usize, lost: bool) -> Stepped
-    requires { place ≤ 65536 }
-    ensures { result ≡ moved_by (outcome reader heard) place lost }
+fn moved_on(heard: Result<Report, Refusal>, stand: &mut Stand) -> Result<Met, Refusal>
+    requires { stand.old.place ≤ 65536 }
+    ensures { (s : Reader) → stepped stand.new s result ≡ moved_by (outcome s heard) stand.old.place stand.old.lost }
 {
-    match heard {
-        Ok(report) => Stepped {
-            answer: Answer::Block(report),
-            reader,
-            place: place + buffers::LINE,
-            lost: is_lost(report),
-        },
-        Err(why) => Stepped {
-            answer: Answer::Refused(why),
-            reader,
-            place,
-            lost,
-        },
-    }
+    let report = heard?;
+    *stand = Stand {
+        place: stand.place + buffers::LINE,
+        lost: is_lost(report),
+    };
+    Ok(Met::Block(report))
 }
 
 // The search after a lost block, from the octet after it.
-fn seek(recording: &[u8], place: usize, s: Reader) -> Stepped
-    requires { place ≤ length recording.now }
-    ensures { result ≡ stepped_by (found_again (search_of recording.now place) (left_from recording.now place)) recording.now place true s }
+fn seek(recording: &[u8], stand: &mut Stand) -> Met
+    requires { (stand.old.lost ≡ true) × (stand.old.place ≤ length recording.now) }
+    ensures { (s : Reader) → stepped stand.new s (Ok result) ≡ stepped_by (found_again (search_of recording.now stand.old.place) (left_from recording.now stand.old.place)) recording.now stand.old.place true s }
 {
-    match search::search(recording, place) {
-        Ok(p) => Stepped {
-            answer: Answer::Place(p),
-            reader: s,
-            place: p,
-            lost: false,
-        },
-        Err(_) => Stepped {
-            answer: Answer::End(recording.len() - place),
-            reader: s,
-            place,
-            lost: true,
-        },
+    match search::search(recording, stand.place) {
+        Ok(place) => {
+            *stand = Stand { place, lost: false };
+            Met::Place(place)
+        }
+        Err(_) => Met::End(recording.len() - stand.place),
     }
 }
 
@@ -104,75 +86,58 @@ fn off_block(all: usize, place: usize, lost: bool) -> bool
 }
 
 // A step that meets no block: after a lost block it searches, and else it is at the end.
-fn seek_or_end(recording: &[u8], place: usize, lost: bool, s: Reader) -> Stepped
-    requires { (place ≤ length recording.now) × (off_block (length recording.now) place lost ≡ true) }
-    ensures { result ≡ stepped_by (answer_here recording.now place lost s) recording.now place lost s }
+fn seek_or_end(recording: &[u8], stand: &mut Stand) -> Met
+    requires { (stand.old.place ≤ length recording.now) × (off_block (length recording.now) stand.old.place stand.old.lost ≡ true) }
+    ensures { (s : Reader) → stepped stand.new s (Ok result) ≡ stepped_by (answer_here recording.now stand.old.place stand.old.lost s) recording.now stand.old.place stand.old.lost s }
 {
-    if lost {
-        return seek(recording, place, s);
+    if stand.lost {
+        return seek(recording, stand);
     }
-    Stepped {
-        answer: Answer::End(recording.len() - place),
-        reader: s,
-        place,
-        lost,
-    }
+    Met::End(recording.len() - stand.place)
 }
 
 // A step that meets no block, with a voice buffer of `voice` octets and a data buffer of `lsd`: by its ruling.
 fn off_by_ruling(
     recording: &[u8],
-    place: usize,
-    lost: bool,
+    stand: &mut Stand,
     s: Reader,
     voice: usize,
     lsd: usize,
-) -> Stepped
-    requires { meets_none (length recording.now) place lost ≡ true }
-    ensures { result ≡ ruled_at recording.now place lost s (each voice lsd) }
+) -> Result<Met, Refusal>
+    requires { meets_none (length recording.now) stand.old.place stand.old.lost ≡ true }
+    ensures { stepped stand.new s result ≡ ruled_at recording.now stand.old.place stand.old.lost s (each voice lsd) }
 {
-    match ruling_of(recording.len(), place, s, voice, lsd) {
-        Err(why) => Stepped {
-            answer: Answer::Refused(why),
-            reader: s,
-            place,
-            lost,
-        },
-        Ok(()) => seek_or_end(recording, place, lost, s),
-    }
+    ruling_of(recording.len(), stand.place, s, voice, lsd)?;
+    Ok(seek_or_end(recording, stand))
 }
 
-// One step of a walk that stands at a place of a recording, the block before it lost or not. Where it meets a block the reader judges the
-// state and the buffers.
+// One step of a walk over a recording. Where it meets a block the reader judges the state and the buffers. A refusal moves nothing.
 pub fn step(
     recording: &[u8],
-    place: usize,
-    lost: bool,
-    s: Reader,
+    stand: &mut Stand,
+    reader: &mut Reader,
     voice: &mut [u8],
     lsd: &mut [u8],
-) -> Stepped
-    ensures { (result ≡ step_at recording.now place lost s (each voice.old lsd.old))
-        × (each voice.new lsd.new ≡ buffers_at recording.now place lost s (each voice.old lsd.old)) }
+) -> Result<Met, Refusal>
+    ensures { (stepped stand.new reader.new result ≡ step_at recording.now stand.old.place stand.old.lost reader.old (each voice.old lsd.old))
+        × (each voice.new lsd.new ≡ buffers_at recording.now stand.old.place stand.old.lost reader.old (each voice.old lsd.old)) }
 {
-    if off_block(recording.len(), place, lost) {
-        return off_by_ruling(recording, place, lost, s, voice.len(), lsd.len());
+    if off_block(recording.len(), stand.place, stand.lost) {
+        return off_by_ruling(recording, stand, *reader, voice.len(), lsd.len());
     }
-    let end = place + buffers::LINE;
-    let mut reader = s;
-    let heard = reading::read(&mut reader, &recording[place..end], voice, lsd);
-    moved_on(heard, reader, place, lost)
+    let end = stand.place + buffers::LINE;
+    let heard = reading::read(reader, &recording[stand.place..end], voice, lsd);
+    moved_on(heard, stand)
 }
 
 // A step that hands out no voice and no data: the same answer, and the same state, place and loss.
-pub fn look(recording: &[u8], place: usize, lost: bool, s: Reader) -> Stepped
-    ensures { result ≡ look_at recording.now place lost s }
+pub fn look(recording: &[u8], stand: &mut Stand, reader: &mut Reader) -> Result<Met, Refusal>
+    ensures { stepped stand.new reader.new result ≡ look_at recording.now stand.old.place stand.old.lost reader.old }
 {
-    if off_block(recording.len(), place, lost) {
-        return off_by_ruling(recording, place, lost, s, buffers::VOICE, buffers::LSD);
+    if off_block(recording.len(), stand.place, stand.lost) {
+        return off_by_ruling(recording, stand, *reader, buffers::VOICE, buffers::LSD);
     }
-    let end = place + buffers::LINE;
-    let mut reader = s;
-    let heard = reading::look(&mut reader, &recording[place..end]);
-    moved_on(heard, reader, place, lost)
+    let end = stand.place + buffers::LINE;
+    let heard = reading::look(reader, &recording[stand.place..end]);
+    moved_on(heard, stand)
 }

@@ -20,10 +20,9 @@ use Rattle.refusals.specs.Numbers.{number_of}
 use Rattle.refusals.proofs.RowLaws.{number-within}
 use Rattle.std.specs.Prelude.{Ok, Err}
 use Rattle.search.proofs.PlaceLaws.{found-fits, found-small}
-use Rattle.recording.specs.Walk.{left_from, read_at, block_read, found_again, answer_here, is_lost, place_by, lost_by, reader_by, stepped_by}
-use Rattle.recording.specs.declared.Answer.{Answer}
-use Rattle.recording.specs.declared.Answer.TheVariants.{Block, Place, End, Refused}
-use Rattle.recording.specs.declared.Stepped.{Stepped}
+use Rattle.recording.specs.Walk.{Stepped, left_from, read_at, block_read, found_again, answer_here, is_lost, place_by, lost_by, reader_by, stepped_by}
+use Rattle.recording.specs.Refusals.{Answer}
+use Rattle.recording.specs.declared.Met.TheVariants.{Block, Place, End}
 use Rattle.recording.proofs.StepLaws.{reader_in_range, place_inside}
 use Rattle.wording.specs.Lines.{number_line, block_line, line_text}
 use Rattle.wording.proofs.LineLaws.{block-length, number-length, words_length}
@@ -47,10 +46,10 @@ module _ (recording : List ℕ) (place : ℕ) (lost : Bool) (s : Reader) (count 
   more_lines e = append_assoc done (line_text a count) _ ∙ rw e at after_line
 
 pub count_low : (a : Answer) (n : ℕ) → count_after a n ≤ n + 1
-count_low (Block report) n = omega arith
-count_low (Place p) n = omega arith
-count_low (End left) n = omega arith
-count_low (Refused why) n = omega arith
+count_low (Ok (Block report)) n = omega arith
+count_low (Ok (Place p)) n = omega arith
+count_low (Ok (End left)) n = omega arith
+count_low (Err why) n = omega arith
 
 -- ---- a listing under way: `turn` turns are made, and what they wrote is `done`
 pub record Going (recording : List ℕ) (at start : ℕ) (was text : List ℕ) (end place : ℕ) (lost : Bool) (s : Reader) (count turn : ℕ) : Type 0 where
@@ -150,7 +149,7 @@ module _ (recording : List ℕ) (n : ℕ) (shorter : Enough recording n) (place 
   found-ends k (Err why) e = left-ends (left_from recording place)
 
   block-ends : length recording ≤ place + 80 * n → (b : Bool) → ltb (left_from recording place) line_octets ≡ b
-      → Rest false (cond b (End (left_from recording place)) (block_read s recording place))
+      → Rest false (cond b (Ok (End (left_from recording place))) (block_read s recording place))
   block-ends k true e = left-ends (left_from recording place)
   block-ends k false e =
       let l = ltb-false (left_from recording place) line_octets e in
@@ -197,7 +196,7 @@ module _ (recording : List ℕ) (small : length recording ≤ 65536) (n : ℕ) (
   found-short (Err why) e = omega (arith, end_short)
 
   block-short : (b : Bool) → ltb (left_from recording place) line_octets ≡ b
-      → 5 * Taken false (cond b (End (left_from recording place)) (block_read s recording place)) + place ≤ length recording + 60 * digit false + 60
+      → 5 * Taken false (cond b (Ok (End (left_from recording place))) (block_read s recording place)) + place ≤ length recording + 60 * digit false + 60
   block-short true e = omega (arith, end_short)
   block-short false e =
       let l = ltb-false (left_from recording place) line_octets e in

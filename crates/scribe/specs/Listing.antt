@@ -7,22 +7,22 @@ use Rattle.search.specs.Finding as finding
 use Rattle.search.specs.Finding.{Found}
 use Rattle.refusals.specs.Numbers.{number_of}
 use Rattle.recording.specs.Walk.{answer_here, reader_by, place_by, lost_by}
-use Rattle.recording.specs.declared.Answer.{Answer}
-use Rattle.recording.specs.declared.Answer.TheVariants.{Block, Place, End, Refused}
+use Rattle.recording.specs.Refusals.{Answer}
+use Rattle.recording.specs.declared.Met.TheVariants.{Block, Place, End}
 use Rattle.wording.specs.Lines.{number_line, line_text}
 
 abbrev pub is_last : Answer → Bool
-is_last (Block report) = false
-is_last (Place p) = false
-is_last (End left) = true
-is_last (Refused why) = true
+is_last (Ok (Block report)) = false
+is_last (Ok (Place p)) = false
+is_last (Ok (End left)) = true
+is_last (Err why) = true
 
 -- count from 0 over the whole listing (DECISIONS L4)
 abbrev pub count_after : Answer → ℕ → ℕ
-count_after (Block report) count = count + 1
-count_after (Place p) count = count
-count_after (End left) count = count
-count_after (Refused why) count = count
+count_after (Ok (Block report)) count = count + 1
+count_after (Ok (Place p)) count = count
+count_after (Ok (End left)) count = count
+count_after (Err why) count = count
 
 -- the lines of n steps of a walk from a place on, or of fewer where it ends (DECISIONS F23)
 unfoldable pub lines_from : ℕ → List ℕ → ℕ → Bool → Reader → ℕ → List ℕ

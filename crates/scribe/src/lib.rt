@@ -5,36 +5,37 @@ ghost use Rattle.std.specs.Prelude.{◌≡◌, true, false, ◌+◌, ◌<◌, �
 ghost use Rattle.reader.specs.State.{state_in_range};
 ghost use Rattle.text.specs.Over.{Written};
 ghost use Rattle.text.specs.Pages.{Wrote};
-ghost use Rattle.recording.specs.Walk.{answer_here, stepped_by};
+ghost use Rattle.recording.specs.Walk.{answer_here, stepped, stepped_by};
 ghost use Rattle.scribe.specs.Listing.{is_last, count_after, lines_from, begun, listing_of};
 
 use reader::Reader;
-use recording::{Answer, Stepped};
+use recording::{Met, Stand};
+use refusals::Refusal;
 use text::Page;
 
-fn is_last(answer: Answer) -> bool
+fn is_last(answer: Result<Met, Refusal>) -> bool
     ensures { result ≡ is_last answer }
 {
-    matches!(answer, Answer::End(_) | Answer::Refused(_))
+    matches!(answer, Ok(Met::End(_)) | Err(_))
 }
 
 // The count of blocks goes over the whole listing.
-fn count_after(answer: Answer, count: usize) -> usize
+fn count_after(answer: Result<Met, Refusal>, count: usize) -> usize
     requires { count < 65536 }
     ensures { result ≡ count_after answer count }
 {
     match answer {
-        Answer::Block(_) => count + 1,
-        Answer::Place(_) | Answer::End(_) | Answer::Refused(_) => count,
+        Ok(Met::Block(_)) => count + 1,
+        _ => count,
     }
 }
 
 // One step of the walk; the streams are not wanted here.
-fn step_on(recording: &[u8], place: usize, lost: bool, s: Reader) -> Stepped
-    requires { (state_in_range s ≡ true) × (length recording.now ≤ 65536) × (place ≤ length recording.now) }
-    ensures { result ≡ stepped_by (answer_here recording.now place lost s) recording.now place lost s }
+fn step_on(recording: &[u8], stand: &mut Stand, s: &mut Reader) -> Result<Met, Refusal>
+    requires { (state_in_range s.old ≡ true) × (length recording.now ≤ 65536) × (stand.old.place ≤ length recording.now) }
+    ensures { stepped stand.new s.new result ≡ stepped_by (answer_here recording.now stand.old.place stand.old.lost s.old) recording.now stand.old.place stand.old.lost s.old }
 {
-    looking::look_from(recording, place, lost, s)
+    looking::look_from(recording, stand, s)
 }
 
 // The lines of a walk from a place on. A recording has more octets than a walk over it has steps.
@@ -42,21 +43,19 @@ fn put_walk(page: &mut Page, recording: &[u8], start: usize)
     requires { (length recording.now ≤ 65536) × (start ≤ length recording.now) × (page.old.place ≤ length page.old.octets.now + 1) }
     ensures { Wrote page.old (lines_from (length recording.now) recording.now start false begun 0) page.new }
 {
-    let mut place = start;
-    let mut lost = false;
+    let mut stand = Stand {
+        place: start,
+        lost: false,
+    };
     let mut s = Reader::fresh();
     let mut count = 0;
     for turn in 0..recording.len() {
-        let stepped = step_on(recording, place, lost, s);
-        let answer = stepped.answer;
+        let answer = step_on(recording, &mut stand, &mut s);
         wording::put_answer(page, count, answer);
         if is_last(answer) {
             return;
         }
         count = count_after(answer, count);
-        place = stepped.place;
-        lost = stepped.lost;
-        s = stepped.reader;
     }
 }
 

@@ -80,6 +80,7 @@ fn one_part_on(bits: u8, octet: u8) -> u8
 }
 
 // Eight parts of 256 places laid over one another, the SC of each in a bit of its own. There is room for the 168 octets that follow.
+// By index: an entry is made of octets that stand 256 apart, so there is no part to go over.
 fn laid_over(part: &[u8]) -> [u8; 424]
     requires { 2048 ≤ length part.now }
     ensures { Folded 256 result part.now }
@@ -92,7 +93,7 @@ fn laid_over(part: &[u8]) -> [u8; 424]
 }
 
 // The same with the 168 octets that follow each part. These begin the next part and are laid over already, one bit higher; only what follows
-// the last part is new.
+// the last part is new. By index: an entry stands 256 places after the one that it is made of, in one array.
 fn folded(part: &[u8]) -> [u8; 424]
     requires { 2216 ≤ length part.now }
     ensures { Folded 424 result part.now }

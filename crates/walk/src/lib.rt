@@ -1,77 +1,62 @@
 // A walk over a recording (document 01, 'Finding alignment' and 'How to write each place'): it keeps the lent recording and its place
-// together. The work of a step is `recording::step`'s; here it is lent the walk's parts, and the walk moves by what it gives.
+// together. The work of a step is `recording::step`'s; here it is lent the walk's parts.
 #![tactic(auto)]
 
 ghost use Rattle.std.specs.Prelude.{◌≡◌};
 ghost use Rattle.buffers.specs.Buffers.{each};
-ghost use Rattle.recording.specs.Walk.{step_at, buffers_at};
+ghost use Rattle.recording.specs.Walk.{stepped, step_at, buffers_at};
 ghost use Rattle.walk.specs.Walks.{opened, onward};
 
 use reader::Reader;
-use recording::{Answer, Stepped};
+use recording::{Met, Stand};
+use refusals::Refusal;
 
-// A lent recording, a place in it, and whether the block before that place was lost.
+// A lent recording, and where the walk stands in it.
 #[derive(Drop)]
 pub struct Walk<'a> {
     pub recording: &'a [u8],
-    pub place: usize,
-    pub lost: bool,
+    pub stand: Stand,
 }
 
-// The walk moved on, with the reader's state and the answer.
-#[derive(Drop)]
-pub struct Onward<'a> {
-    pub walk: Walk<'a>,
-    pub reader: Reader,
-    pub answer: Answer,
-}
+impl<'a> Walk<'a> {
+    // A walk that stands at a place of a recording, the block before it lost or not.
+    pub fn open(recording: &'a [u8], place: usize, lost: bool) -> Walk<'a>
+        ensures { result ≡ opened recording.entry place lost }
+    {
+        Walk {
+            recording,
+            stand: Stand { place, lost },
+        }
+    }
 
-// A walk that stands at a place of a recording, the block before it lost or not.
-pub fn open<'a>(recording: &'a [u8], place: usize, lost: bool) -> Walk<'a>
-    ensures { result ≡ opened recording.entry place lost }
-{
-    Walk {
-        recording,
-        place,
-        lost,
+    // One step of a walk.
+    pub fn step(
+        &mut self,
+        reader: &mut Reader,
+        voice: &mut [u8],
+        lsd: &mut [u8],
+    ) -> Result<Met, Refusal>
+        ensures moved { self.new ≡ onward self.old (step_at self.old.recording.now self.old.stand.place self.old.stand.lost reader.old (each voice.old lsd.old)) }
+        ensures told { stepped self.new.stand reader.new result ≡ step_at self.old.recording.now self.old.stand.place self.old.stand.lost reader.old (each voice.old lsd.old) }
+        ensures handed { each voice.new lsd.new ≡ buffers_at self.old.recording.now self.old.stand.place self.old.stand.lost reader.old (each voice.old lsd.old) }
+    {
+        recording::step(self.recording, &mut self.stand, reader, voice, lsd)
     }
 }
 
-// One step of a walk.
-pub fn step<'a>(w: Walk<'a>, reader: Reader, voice: &mut [u8], lsd: &mut [u8]) -> Onward<'a>
-    ensures { (result ≡ onward w.entry (step_at w.entry.recording.now w.entry.place w.entry.lost reader (each voice.old lsd.old)))
-        × (each voice.new lsd.new ≡ buffers_at w.entry.recording.now w.entry.place w.entry.lost reader (each voice.old lsd.old)) }
-{
-    let s = recording::step(w.recording, w.place, w.lost, reader, voice, lsd);
-    Onward {
-        walk: Walk {
-            recording: w.recording,
-            place: s.place,
-            lost: s.lost,
-        },
-        reader: s.reader,
-        answer: s.answer,
-    }
-}
-
-// A step from a place of a recording, by a walk that is opened there. Its contract speaks of no walk, so the prover covers its callers
-// (DECISIONS F21).
+// A step from a place of a recording, by a walk that is opened there. Its contract speaks of no walk (DECISIONS F21).
 pub fn step_from(
     recording: &[u8],
-    place: usize,
-    lost: bool,
-    reader: Reader,
+    stand: &mut Stand,
+    reader: &mut Reader,
     voice: &mut [u8],
     lsd: &mut [u8],
-) -> Stepped
-    ensures { (result ≡ step_at recording.now place lost reader (each voice.old lsd.old))
-        × (each voice.new lsd.new ≡ buffers_at recording.now place lost reader (each voice.old lsd.old)) }
+) -> Result<Met, Refusal>
+    ensures told { stepped stand.new reader.new result ≡ step_at recording.now stand.old.place stand.old.lost reader.old (each voice.old lsd.old) }
+    ensures handed { each voice.new lsd.new ≡ buffers_at recording.now stand.old.place stand.old.lost reader.old (each voice.old lsd.old) }
 {
-    let o = step(open(recording, place, lost), reader, voice, lsd);
-    Stepped {
-        answer: o.answer,
-        reader: o.reader,
-        place: o.walk.place,
-        lost: o.walk.lost,
-    }
+    let mut walk = Walk::open(recording, stand.place, stand.lost);
+    let answer = walk.step(reader, voice, lsd);
+    *stand = walk.stand;
+    answer
 }

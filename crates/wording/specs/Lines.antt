@@ -1,5 +1,5 @@
 -- Document 01, 'Figures to check against': what a line of the listing says.
-use Rattle.std.specs.Prelude.{List, ◌++◌, ℕ, unwrap_or, option_map}
+use Rattle.std.specs.Prelude.{List, ◌++◌, ℕ, unwrap_or, option_map, Ok, Err}
 use Prim.Native.String.{String}
 use Rattle.digits.specs.Digits.{hex_of, decimal_of}
 use Rattle.text.specs.Words.{text_of}
@@ -11,8 +11,8 @@ use Rattle.track.specs.declared.Standing.TheVariants.{Waiting, Read, Lost}
 use Rattle.track.specs.declared.Verdict.{Verdict}
 use Rattle.track.specs.declared.Verdict.TheVariants.{None, Good, Bad}
 use Rattle.refusals.specs.Numbers.{number_of}
-use Rattle.recording.specs.declared.Answer.{Answer}
-use Rattle.recording.specs.declared.Answer.TheVariants.{Block, Place, End, Refused}
+use Rattle.recording.specs.Refusals.{Answer}
+use Rattle.recording.specs.declared.Met.TheVariants.{Block, Place, End}
 
 -- a line of a word and a number
 abbrev pub number_line : String → ℕ → List ℕ
@@ -42,7 +42,7 @@ block_line count report =
 
 -- each later place found gives its own "found" line; the last line is the octets left. No row refuses a step of a listing
 abbrev pub line_text : Answer → ℕ → List ℕ
-line_text (Block report) count = block_line count report
-line_text (Place p) count = number_line "found " p
-line_text (End left) count = number_line "left " left
-line_text (Refused why) count = number_line "none " (number_of why)
+line_text (Ok (Block report)) count = block_line count report
+line_text (Ok (Place p)) count = number_line "found " p
+line_text (Ok (End left)) count = number_line "left " left
+line_text (Err why) count = number_line "none " (number_of why)

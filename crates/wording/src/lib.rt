@@ -7,7 +7,8 @@ ghost use Rattle.digits.specs.Digits.{decimal_of};
 ghost use Rattle.text.specs.Words.{text_of};
 ghost use Rattle.wording.specs.Lines.{standing_text, verdict_text, code_text, block_line, line_text};
 
-use recording::Answer;
+use recording::Met;
+use refusals::Refusal;
 use text::Page;
 use track::{Report, Standing, Verdict};
 use words::Reading;
@@ -68,13 +69,13 @@ pub fn put_line(page: &mut Page, word: &[u8], n: usize)
 
 // The line of an answer of a walk; a block has its count.
 #[tactic(auto, unfolding(text::specs::Words::text_of))]
-pub fn put_answer(page: &mut Page, count: usize, answer: Answer)
+pub fn put_answer(page: &mut Page, count: usize, answer: Result<Met, Refusal>)
     ensures { Wrote page.old (line_text answer count) page.new }
 {
     match answer {
-        Answer::Block(report) => put_block(page, count, report),
-        Answer::Place(p) => put_line(page, b"found ", p),
-        Answer::End(left) => put_line(page, b"left ", left),
-        Answer::Refused(why) => put_line(page, b"none ", usize::from(u8::from(why))),
+        Ok(Met::Block(report)) => put_block(page, count, report),
+        Ok(Met::Place(p)) => put_line(page, b"found ", p),
+        Ok(Met::End(left)) => put_line(page, b"left ", left),
+        Err(why) => put_line(page, b"none ", usize::from(u8::from(why))),
     }
 }

@@ -4,44 +4,17 @@ use Prim.Native.Nat.{◌+◌, ◌-◌}
 use native.Mathlib.Omega.{arith}
 use Rattle.buffers.specs.Lengths.{line_octets}
 use Rattle.recording.specs.Walk.{look_at}
-use Rattle.recording.proofs.StepLaws.{lent-block, Met, met, block_looked}
+use Rattle.recording.proofs.StepLaws.{lent-block, met, block_looked}
 use Rattle.recording.proofs.look.Goals as goal
-
-pub off_by_ruling-requires : goal.off_by_ruling-requires
-off_by_ruling-requires c = sym c.off_block.ensures ∙ c.if-off_block.true
 
 pub returns-then-off_block : goal.returns-then-off_block
 unfolding look_at
 returns-then-off_block c = c.off_by_ruling.ensures
 
-pub overflow_add-end : goal.overflow_add-end
-overflow_add-end c =
-    let is-meets : (let a = c.args in
-    Met a.recording.now a.place a.lost) =
-    met _ _ _ (sym c.off_block.ensures ∙ c.if-off_block.false) in
-    omega (arith, is-meets.inside)
-
-pub slice_bounds-look-end : goal.slice_bounds-look-end
-slice_bounds-look-end c =
-    let is-meets : (let a = c.args in
-    Met a.recording.now a.place a.lost) =
-    met _ _ _ (sym c.off_block.ensures ∙ c.if-off_block.false) in
-    omega (arith, is-meets.inside)
-
-pub moved_on-requires : goal.moved_on-requires
-moved_on-requires c =
-    let is-meets : (let a = c.args in
-    Met a.recording.now a.place a.lost) =
-    met _ _ _ (sym c.off_block.ensures ∙ c.if-off_block.false) in
-    let m = is-meets in
-    omega (arith, m.inside, m.small)
-
 pub returns : goal.returns
 returns c =
-    let is-meets : (let a = c.args in
-    Met a.recording.now a.place a.lost) =
-    met _ _ _ (sym c.off_block.ensures ∙ c.if-off_block.false) in
-    let a = c.args in
-    let r = a.recording.now in
-    block_looked r a.place a.lost a.s is-meets _ _ _
-    (lent-block (a.place + line_octets - a.place) a.place r (omega arith)) c.look-heard.ensures c.moved_on.ensures
+    let r = c.args.recording.now in
+    let stand = c.args.stand.now in
+    let meets = met r stand.place stand.lost (sym c.off_block.ensures ∙ c.if-off_block.false) in
+    block_looked r stand.place stand.lost c.args.reader.now meets _ _ _
+    (lent-block (stand.place + line_octets - stand.place) stand.place r (omega arith)) c.look-heard.ensures (c.moved_on.ensures _)

@@ -7,5 +7,5 @@ use Rattle.recording.proofs.off_by_ruling.Goals as goal
 pub seek_or_end-requires : goal.seek_or_end-requires
 seek_or_end-requires c =
     let a = c.args in
-    let g = goes _ _ _ _ (sym c.ruling_of.ensures ∙ c.in-Ok.is) in
-    (g.inside, off_here (length a.recording.now) a.place a.lost c.requires g.small)
+    let g = goes _ _ _ _ (sym c.ruling_of.ensures ∙ c.in_ok-ruling_of.was) in
+    (g.inside, off_here (length a.recording.now) a.stand.now.place a.stand.now.lost c.requires g.small)

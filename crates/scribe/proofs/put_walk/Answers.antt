@@ -1,23 +1,22 @@
 -- `scribe::put_walk` meets its contract: after `turn` turns of the loop, what they wrote stands in the text (`Going`).
 use native.Mathlib.Omega.{arith}
 use mathlib.Core.Path.{refl, sym, ◌∙◌}
-use Prim.Native.Nat.{◌-◌}
-use lib.ListN.{length}
+use Rattle.recording.specs.Walk.{stepped}
 use Rattle.scribe.proofs.ListingLaws.{begins, over, ends, goes_on}
 use Rattle.scribe.proofs.put_walk.Goals as goal
 
 pub loop-turn-init : goal.loop-turn-init
 loop-turn-init c = record { same_buffer = refl; going = begins _ _ _ _ _ c.requires.1 c.requires.2 c.fresh-s.ensures }
 
-pub step_on-stepped-requires : goal.step_on-stepped-requires
-step_on-stepped-requires c = let g = c.loop-turn.invariant.going in (g.range, c.requires.0, g.inside)
+pub step_on-answer-requires : goal.step_on-answer-requires
+step_on-answer-requires c = let g = c.loop-turn.invariant.going in (g.range, c.requires.0, g.inside)
 
 pub returns-then-is_last : goal.returns-then-is_last
 returns-then-is_last c =
-    let p = c.step_on-stepped in
+    let p = c.step_on-answer in
     record {
       same_buffer = c.put_answer.ensures.same_buffer ∙ c.loop-turn.invariant.same_buffer;
-      written = ends _ _ _ _ _ _ _ _ _ _ _ c.loop-turn.invariant.going c.loop-turn-test.true p.result p.ensures _ _ c.put_answer.ensures.written
+      written = ends _ _ _ _ _ _ _ _ _ _ _ c.loop-turn.invariant.going c.loop-turn-test.true (stepped p.new.stand p.new.s p.result) p.ensures _ _ c.put_answer.ensures.written
           (sym c.is_last.ensures ∙ c.if-is_last.true);
     }
 
@@ -29,11 +28,11 @@ loop-turn-smaller c = omega arith
 
 pub loop-turn-preserved : goal.loop-turn-preserved
 loop-turn-preserved c =
-    let p = c.step_on-stepped in
+    let p = c.step_on-answer in
     record {
       same_buffer = c.put_answer.ensures.same_buffer ∙ c.loop-turn.invariant.same_buffer;
       going = rw c.count_after-count.ensures
-          (goes_on _ _ _ _ _ _ _ _ _ _ _ c.loop-turn.invariant.going c.loop-turn-test.true p.result p.ensures _ _ c.put_answer.ensures.written
+          (goes_on _ _ _ _ _ _ _ _ _ _ _ c.loop-turn.invariant.going c.loop-turn-test.true (stepped p.new.stand p.new.s p.result) p.ensures _ _ c.put_answer.ensures.written
           (sym c.is_last.ensures ∙ c.if-is_last.false));
     }
 

@@ -8,7 +8,7 @@ use Rattle.scribe.proofs.put_walk.Given as goal
 abbrev pub invariant-loop-turn : goal.invariant-loop-turn
 invariant-loop-turn l = record {
   same_buffer : l.page.octets.ghost_name ≡ l.initial.page.octets.ghost_name;
-  going : Going l.recording l.initial.page.place l.start l.initial.page.octets.now l.page.octets.now l.page.place l.place l.lost l.s l.count l.turn;
+  going : Going l.recording l.initial.page.place l.start l.initial.page.octets.now l.page.octets.now l.page.place l.stand.place l.stand.lost l.s l.count l.turn;
 }
 
 abbrev pub decreases-loop-turn : goal.decreases-loop-turn
