@@ -1,5 +1,5 @@
 // What a card driver in C calls, as a library: `card_c` exports these functions to C under the same
-// names. States are lent, answers are numbers (1 and 0 for a bool, which C may fill with others),
+// names. States are lent, answers are numbers (1 and 0 for a bool, since the exported types stay),
 // and no call asks anything of its numbers and lengths: each of them is answered.
 #![tactic(auto)]
 

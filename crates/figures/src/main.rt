@@ -105,7 +105,7 @@ fn each_three(rt: &impl Print) -> io::Result<()> {
 
 // Whether an audio value and a data value overlap.
 fn overlap(rt: &impl Print, audio: u8, lsd: u8) -> io::Result<()> {
-    let mode = Mode { audio, lsd };
+    let mode = Mode::off().with_audio(audio).with_lsd(lsd);
     let judged = if mode.overlaps() {
         "overlap"
     } else {
@@ -185,7 +185,7 @@ fn figures(rt: &impl Print) -> io::Result<()> {
     overlaps(rt)?;
     rates(rt)?;
     line_places(rt)?;
-    picture(rt, Mode { audio: 20, lsd: 6 })
+    picture(rt, Mode::off().with_audio(20).with_lsd(6))
 }
 
 // What cannot be written is not told: all that is written is compared with the file `stdout`.

@@ -229,7 +229,7 @@ impl Tally {
 // An audio value beside each data value, where the two are a mode.
 fn each_data(t: &mut Tally, audio: u8, mute: bool) {
     for lsd in 0..32 {
-        let mode = Mode { audio, lsd };
+        let mode = Mode::off().with_audio(audio).with_lsd(lsd);
         if mode.is_in_range() {
             t.count(mode, mute);
         }

@@ -31,7 +31,7 @@ read_rows bits = row NotAPreset (not (is_preset bits)) ∷ []
 abbrev pub written_rows : Sender → List Row
 written_rows s = row BadState (not (state_in_range s)) ∷ []
 
--- reading one gives a fresh state with that chosen audio, and the data code to offer (DECISIONS P3, P6)
+-- reading one gives a fresh state with that chosen audio, and the data code to offer; a refused one gives nothing (DECISIONS P3, P6)
 abbrev pub read_by : Ruling → ℕ → Result PresetRead Refusal
 read_by (Err why) bits = Err why
 read_by (Ok u) bits = Ok (record { state = fresh_with (audio_in bits); offer = written lsd_attribute (lsd_in bits) })

@@ -3,8 +3,6 @@
 // writes from the same collection, the file `stdin`.
 #![tactic(auto)]
 
-ghost use Rattle.std.specs.Prelude.{◌≤◌, length};
-
 use numbers::BlockNumber;
 use reader::Reader;
 use refusals::Refusal;

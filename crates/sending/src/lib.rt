@@ -2,7 +2,6 @@
 // 01, 'Sending a block').
 #![tactic(auto)]
 
-ghost use Rattle.std.specs.Prelude.{◌≡◌};
 ghost use Rattle.buffers.specs.Buffers.{each};
 ghost use Rattle.sending.specs.Step.{outcome, Told};
 

@@ -3,8 +3,7 @@
 // and a place above the buffer's length says that the text did not fit (DECISIONS F22).
 #![tactic(auto)]
 
-ghost use Rattle.std.specs.Prelude.{◌≡◌, [], ◌∷◌, ◌+◌, ◌≤◌, ◌<◌, ◌^◌, min, length};
-ghost use Rattle.text.specs.Over.{Written};
+ghost use Rattle.std.specs.Prelude.{◌≡◌, [], ◌∷◌, ◌+◌, ◌<◌, ◌^◌, min};
 ghost use Rattle.text.specs.Pages.{Wrote};
 
 // A place of a buffer of `size` octets as it is answered: one past the end stands for each that is farther.
