@@ -11,6 +11,7 @@ use Rattle.control.specs.Decisions.{with_remainder, decision_of}
 use Rattle.sender.specs.declared.Sender.{Sender}
 use Rattle.control.specs.declared.Call.{Call}
 use Rattle.control.specs.declared.Decision.{Decision}
+use Rattle.sending.specs.declared.Advanced.{Advanced}
 
 -- what a call leaves of the state, and its answer
 pub record Outcome : Type 0 where
@@ -19,6 +20,11 @@ pub record Outcome : Type 0 where
 
 abbrev pub outcome : Sender → Answer → Outcome
 outcome state answer = record { state = state; answer = answer }
+
+-- what the step leaves of a state, and answers: a refused call leaves it as it was
+abbrev pub left_by : Sender → Result Advanced Refusal → Outcome
+left_by s (Err r) = outcome s (Err r)
+left_by s (Ok n) = outcome n.state (Ok n.went)
 
 -- what the block says in its service channel
 abbrev pub header_for : Sender → Call → ℕ → Header

@@ -1,4 +1,4 @@
--- `sending::send` meets its contract: by what is decided.
+-- `sending::step` meets its contract: by what is decided.
 use mathlib.Core.Path.{sym, ◌∙◌}
 use Rattle.std.proofs.Common.{rules}
 use Rattle.buffers.specs.Buffers.{each}
@@ -6,12 +6,12 @@ use Rattle.frame.proofs.BlockLaws.{written-block}
 use Rattle.control.proofs.GoesLaws.{goes-fitting}
 use Rattle.sending.specs.Step.{block_for}
 use Rattle.sending.proofs.OutcomeLaws.{told_refused, told_went, decided-accepts}
-use Rattle.sending.proofs.send.Goals as goal
+use Rattle.sending.proofs.step.Goals as goal
 
 pub returns-in_err-decided : goal.returns-in_err-decided
 returns-in_err-decided c =
     let a = c.args in
-    let told = told_refused a.state.now a.call (each a.voice.now a.lsd.now) a.line.now _ (sym c.decide.ensures ∙ c.in_err-decided.was) in
+    let told = told_refused a.state a.call (each a.voice.now a.lsd.now) a.line.now _ (sym c.decide.ensures ∙ c.in_err-decided.was) in
     search (rules, told)
 
 pub returns : goal.returns
@@ -19,7 +19,7 @@ unfolding block_for
 returns c =
     let a = c.args in
     let decided = sym c.decide.ensures ∙ c.in_ok-decided.was in
-    let fits = goes-fitting a.state.now a.call _ _ (decided-accepts a.state.now a.call (each a.voice.now a.lsd.now) a.line.now _ decided) in
+    let fits = goes-fitting a.state a.call _ _ (decided-accepts a.state a.call (each a.voice.now a.lsd.now) a.line.now _ decided) in
     rw c.block_crc-remainder.ensures
-    (told_went a.state.now a.call (each a.voice.now a.lsd.now) a.line.now _ _ decided
+    (told_went a.state a.call (each a.voice.now a.lsd.now) a.line.now _ _ decided
     (c.write_block.ensures.1 ∙ written-block _ _ _ (each a.voice.now a.lsd.now) a.line.now fits))
