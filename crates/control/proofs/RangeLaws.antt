@@ -19,7 +19,7 @@ use Rattle.sender.specs.State.{chosen_mode, state_in_range}
 use Rattle.control.specs.Rules.{rule_of}
 use Rattle.control.specs.Plans.{plan_by}
 use Rattle.control.specs.Refusals.{is_audio, is_lsd, clashes, goes_plain, ruling_of}
-use Rattle.control.specs.Decisions.{next_by, with_remainder}
+use Rattle.control.specs.Decisions.{next_by, with_remainder, next_of, decision_of}
 use Rattle.sender.specs.declared.Sender.{Sender}
 use Rattle.control.specs.declared.Call.{Call}
 use Rattle.control.specs.declared.Rule.{Rule}
@@ -66,6 +66,7 @@ next-kept Offered s code rem k low apart = offered-kept s code rem k low (apart 
 
 -- whatever is decided of a state in range leaves one in range, with any remainder that is at most 15
 pub decided_in_range : (s : Sender) (c : Call) (line : ℕ) (n : Each ℕ) (rem : ℕ) → state_in_range s ≡ true → leb rem 15 ≡ true
-    → ruling_of s c line n ≡ Ok tt → state_in_range (with_remainder (next_by (plan_by (rule_of s c.mute) s c.code) s) rem) ≡ true
+    → ruling_of s c line n ≡ Ok tt → state_in_range (with_remainder (next_of (decision_of s c line n)) rem) ≡ true
+unfolding decision_of
 decided_in_range s c line n rem r low e =
-    keeps _ (next-kept (rule_of s c.mute) s c.code rem (kept s r) low (goes s c line n e).apart)
+    rw e (keeps _ (next-kept (rule_of s c.mute) s c.code rem (kept s r) low (goes s c line n e).apart))

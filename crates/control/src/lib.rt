@@ -58,6 +58,14 @@ pub struct Decision {
     pub next: Sender,
 }
 
+// What is decided of a call that is refused, and why: no word goes, which is 0, and the next state is the one that was given (DECISIONS F45).
+#[derive(Clone, Copy, Debug, PartialEq, Eq)]
+pub struct Refused {
+    pub why: Refusal,
+    pub word: u8,
+    pub next: Sender,
+}
+
 impl Rule {
     fn goes_plain(self) -> bool
         ensures { result ≡ goes_plain self }
@@ -185,10 +193,16 @@ pub fn decide(
     line: usize,
     voice: usize,
     lsd: usize,
-) -> Result<Decision, Refusal>
+) -> Result<Decision, Refused>
     ensures { result ≡ decision_of s c line (each voice lsd) }
 {
-    ruling_of(s, c, line, voice, lsd)?;
+    if let Err(why) = ruling_of(s, c, line, voice, lsd) {
+        return Err(Refused {
+            why,
+            word: 0,
+            next: s,
+        });
+    }
     let plan = plan_by(rule_of(s, c.mute), s, c.code);
     Ok(Decision {
         word: plan.word,

@@ -18,6 +18,14 @@ pub struct PresetRead {
     pub offer: u8,
 }
 
+// What bits that are no preset give: why, and in place of what they would stand for a fresh state and "data off" (DECISIONS P6).
+#[derive(Clone, Copy, Debug, PartialEq, Eq)]
+pub struct PresetUnread {
+    pub why: Refusal,
+    pub state: Sender,
+    pub offer: u8,
+}
+
 fn audio_in(bits: u16) -> u8
     ensures { result ≡ audio_in bits }
 {
@@ -42,10 +50,16 @@ fn is_preset(bits: u16) -> bool
 
 // A preset's state to start from, and the data code to offer.
 #[tactic(auto, unfolding(crate::specs::Presets::preset_read))]
-pub fn read_preset(bits: u16) -> Result<PresetRead, Refusal>
+pub fn read_preset(bits: u16) -> Result<PresetRead, PresetUnread>
     ensures { result ≡ preset_read bits }
 {
-    refusals::first_given(&[Refusal::NotAPreset.row(!is_preset(bits))])?;
+    if let Err(why) = refusals::first_given(&[Refusal::NotAPreset.row(!is_preset(bits))]) {
+        return Err(PresetUnread {
+            why,
+            state: Sender::fresh(),
+            offer: OFFER_LSD_OFF,
+        });
+    }
     Ok(PresetRead {
         state: Sender::fresh_with(audio_in(bits)),
         offer: OFFER_LSD_OFF + lsd_in(bits),

@@ -1,27 +1,26 @@
 -- Document 01, 'Preset': reading one into a state and writing one from it, in the numbers that cross to C.
 use Rattle.std.specs.Prelude.{ℕ, Result, Ok, Err}
-use Rattle.modes.specs.Modes.{lsd_off}
-use Rattle.codes.specs.Codes.{written, lsd_attribute}
 use Rattle.presets.specs.Presets.{preset_read, preset_written, written_number, written_bits}
 use Rattle.refusals.specs.Numbers.{number_of}
 use Rattle.refusals.specs.declared.Refusal.{Refusal}
 use Rattle.sender.specs.declared.Sender.{Sender}
 use Rattle.presets.specs.declared.PresetRead.{PresetRead}
+use Rattle.presets.specs.declared.PresetUnread.{PresetUnread}
 use Rattle.presetting.specs.declared.PresetAnswer.{PresetAnswer}
 use Rattle.presetting.specs.declared.PresetBits.{PresetBits}
 
 -- what is answered of a preset that is read, beside the state to start from: a refused one offers "data off". And of one that is written
-abbrev pub preset_answer_of : Result PresetRead Refusal → PresetAnswer
+abbrev pub preset_answer_of : Result PresetRead PresetUnread → PresetAnswer
 preset_answer_of (Ok p) = record { offer = p.offer; number = 0 }
-preset_answer_of (Err r) = record { offer = written lsd_attribute lsd_off; number = number_of r }
+preset_answer_of (Err u) = record { offer = u.offer; number = number_of u.why }
 
 abbrev pub preset_bits_of : Result ℕ Refusal → PresetBits
 preset_bits_of w = record { bits = written_bits w; number = written_number w; reserved = 0 }
 
 -- the state that a preset stands for, or the one that was given where it is refused
-abbrev pub preset_state_of : Result PresetRead Refusal → Sender → Sender
+abbrev pub preset_state_of : Result PresetRead PresetUnread → Sender → Sender
 preset_state_of (Ok p) s = p.state
-preset_state_of (Err r) s = s
+preset_state_of (Err u) s = s
 
 -- what reading one leaves: that state, and the answer
 pub record PresetStepped : Type 0 where

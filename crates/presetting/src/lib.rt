@@ -4,7 +4,7 @@
 ghost use Rattle.std.specs.Prelude.{◌≡◌};
 ghost use Rattle.presetting.specs.Presetting.{preset_answer_of, preset_bits_of, preset_taken, preset_given};
 
-use presets::{OFFER_LSD_OFF, PresetRead};
+use presets::{PresetRead, PresetUnread};
 use refusals::Refusal;
 use sender::Sender;
 
@@ -26,18 +26,18 @@ pub struct PresetBits {
 }
 
 // A preset that was read: the data code to offer.
-impl From<Result<PresetRead, Refusal>> for PresetAnswer {
+impl From<Result<PresetRead, PresetUnread>> for PresetAnswer {
     ghost from_gives = { λ read answer. answer ≡ preset_answer_of read };
 
-    fn from(read: Result<PresetRead, Refusal>) -> PresetAnswer {
+    fn from(read: Result<PresetRead, PresetUnread>) -> PresetAnswer {
         match read {
             Ok(preset) => PresetAnswer {
                 offer: preset.offer,
                 number: 0,
             },
-            Err(why) => PresetAnswer {
-                offer: OFFER_LSD_OFF,
-                number: u8::from(why),
+            Err(unread) => PresetAnswer {
+                offer: unread.offer,
+                number: u8::from(unread.why),
             },
         }
     }

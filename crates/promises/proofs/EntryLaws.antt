@@ -36,6 +36,7 @@ use Rattle.presetting.specs.declared.PresetAnswer.{PresetAnswer}
 use Rattle.presetting.specs.declared.PresetBits.{PresetBits}
 use Rattle.presets.specs.Presets.{preset_read, preset_number}
 use Rattle.presets.specs.declared.PresetRead.{PresetRead}
+use Rattle.presets.specs.declared.PresetUnread.{PresetUnread}
 use Rattle.presetting.specs.Presetting.{preset_answer_of, preset_state_of}
 use Rattle.calls.specs.Sending.{on}
 use Rattle.calls.specs.Sending as call-sends
@@ -170,11 +171,11 @@ stepping_in_C w recording b r next out (er, en, eb) =
     }
 
 -- a preset's answer has the number of its reading, and one that is refused keeps the state
-preset_numbered : (p : Result PresetRead Refusal) → (preset_answer_of p).number ≡ preset_number p
+preset_numbered : (p : Result PresetRead PresetUnread) → (preset_answer_of p).number ≡ preset_number p
 preset_numbered (Ok p) = refl
 preset_numbered (Err why) = refl
 
-preset_kept : (p : Result PresetRead Refusal) (s : Sender) → (preset_number p ≡ 0 → ⊥) → preset_state_of p s ≡ s
+preset_kept : (p : Result PresetRead PresetUnread) (s : Sender) → (preset_number p ≡ 0 → ⊥) → preset_state_of p s ≡ s
 preset_kept (Ok p) s h = absurd (h refl)
 preset_kept (Err why) s h = refl
 

@@ -6,7 +6,6 @@ use Prim.Native.Nat.{ℕ}
 use borrow.Author.Tests.{eqb-true, not-false}
 use lib.ListN.{length}
 use Rattle.std.specs.Prelude.{Result}
-use Rattle.refusals.specs.declared.Refusal.{Refusal}
 use Rattle.table.specs.Table.{audio_table, audio_places, beside, audio_listed}
 use Rattle.modes.specs.Owners.{held_by}
 use Rattle.modes.specs.Modes.{audio_off}
@@ -18,6 +17,7 @@ use Rattle.sending.specs.Step.{header_for, block_for, state_by, answer_by, line_
 use Rattle.sender.specs.declared.Sender.{Sender}
 use Rattle.control.specs.declared.Call.{Call}
 use Rattle.control.specs.declared.Decision.{Decision}
+use Rattle.control.specs.declared.Refused.{Refused}
 use Rattle.sending.proofs.OutcomeLaws.{told}
 use Rattle.buffers.specs.Buffers.{Buffers, lengths}
 use Rattle.buffers.proofs.LengthLaws.{same_each}
@@ -52,8 +52,8 @@ unfolding turned outcome_of line_of
 turn_same s x other fit blocks =
     rw fit (ap (left (decided s x.call other x.line)) (λ i word. blocks word i))
   where
-    left : Result Decision Refusal → (ℕ → List ℕ) → Left
-    left d block = record { outcome = record { state = state_by d s block; answer = answer_by d }; line = line_by d x.line block }
+    left : Result Decision Refused → (ℕ → List ℕ) → Left
+    left d block = record { outcome = record { state = state_by d block; answer = answer_by d }; line = line_by d x.line block }
 
 turn-alike : (s : Sender) (x y : Turn) → AlikeTurn s x y → turned s x ≡ turned s y
 turn-alike s x y h =

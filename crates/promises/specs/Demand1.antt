@@ -14,6 +14,7 @@ use Rattle.presets.specs.Presets.{is_preset, preset_read, preset_written, preset
 use Rattle.sender.specs.declared.Sender.{Sender}
 use Rattle.control.specs.declared.Call.{Call}
 use Rattle.presets.specs.declared.PresetRead.{PresetRead}
+use Rattle.presets.specs.declared.PresetUnread.{PresetUnread}
 use Rattle.buffers.specs.Buffers.{Buffers}
 use Rattle.reader.specs.State as reader
 use Rattle.reading.specs.Refusals as reader-list
@@ -119,7 +120,7 @@ Stepping = (recording : List ℕ) (place : ℕ) (lost : Bool) (s : Reader) (b : 
 
 -- ---- `presets::read_preset`: row 11; `presets::write_preset`: row 1. Neither is lent anything or gives back a state that it took
 abbrev pub ReadingPreset : Type 0
-ReadingPreset = (bits : ℕ) (r : Result PresetRead Refusal) → r ≡ preset_read bits
+ReadingPreset = (bits : ℕ) (r : Result PresetRead PresetUnread) → r ≡ preset_read bits
     → Refuses (preset_number r) (row 11 (not (is_preset bits)) ∷ []) (Unit {0})
 
 abbrev pub WritingPreset : Type 0

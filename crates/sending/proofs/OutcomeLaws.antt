@@ -14,10 +14,11 @@ use Rattle.sender.specs.State.{state_in_range}
 use Rattle.control.specs.Rules.{rule_of}
 use Rattle.control.specs.Plans.{plan_by}
 use Rattle.control.specs.Refusals.{number_in}
-use Rattle.control.specs.Decisions.{with_remainder, decision_by, decision_of}
+use Rattle.control.specs.Decisions.{with_remainder, next_of, decision_by, decision_of}
 use Rattle.sender.specs.declared.Sender.{Sender}
 use Rattle.control.specs.declared.Call.{Call}
 use Rattle.control.specs.declared.Decision.{Decision}
+use Rattle.control.specs.declared.Refused.{Refused}
 use Rattle.control.proofs.RangeLaws.{decided_in_range}
 use Rattle.sending.specs.Step.{Outcome, outcome, answer_by, block_for, ruled, decided, outcome_of, line_of, Told}
 
@@ -26,15 +27,22 @@ decided-number : (q : Ruling) (s : Sender) (c : Call) → number_in (answer_by (
 decided-number (Err r) s c = refl
 decided-number (Ok u) s c = refl
 
+-- a refused call gives back the state that it was given
+given_back : (q : Ruling) (s : Sender) (c : Call) (r : Refused) → decision_by q s c ≡ Err r → r.next ≡ s
+given_back (Err q) s c r h = sym (ap next_of h)
+given_back (Ok tt) s c r h = absurd (false≢true (sym (ap is_ok h)))
+
 module _ (s : Sender) (c : Call) (b : Buffers) (line : List ℕ) where
   pub told : Told s c b line (outcome_of s c b line) (line_of s c b line)
   unfolding outcome_of decision_of
   told = record { outcome = refl; octets = refl; number = decided-number (ruled s c b line) s c }
 
   -- so a program is told right that goes by what is decided: it leaves all as it was where a row refuses, and else writes the block
-  pub told_refused : (q : Refusal) → decided s c b line ≡ Err q → Told s c b line (outcome s (Err q)) line
-  unfolding outcome_of line_of
-  told_refused q e = record { outcome = rw e; octets = rw e; number = rw e at told.number }
+  pub told_refused : (q : Refused) → decided s c b line ≡ Err q → Told s c b line (outcome s (Err q.why)) line
+  unfolding outcome_of line_of decision_of
+  told_refused q e =
+      let next = given_back (ruled s c b line) s c q e in
+      record { outcome = rw (e, next); octets = rw e; number = rw e at told.number }
 
   pub told_went : (d : Decision) (block : List ℕ) → decided s c b line ≡ Ok d → block ≡ block_for s c d.word b
       → Told s c b line (outcome (with_remainder d.next (block_crc_of block)) (Ok d.went)) block
@@ -65,7 +73,7 @@ module _ (s : Sender) (c : Call) (b : Buffers) (line : List ℕ) where
       go (Err q) e = rw e r
       go (Ok tt) e =
           let block = block_for s c (plan_by (rule_of s c.mute) s c.code).word b in
-          rw e (decided_in_range s c (length line) (lengths b) (block_crc_of block) r (crc-low block) e)
+          rw e (rw e at (decided_in_range s c (length line) (lengths b) (block_crc_of block) r (crc-low block) e))
 
 -- any two outcomes that the contract of a sending call allows are equal
 pub send-settled : (s : Sender) (c : Call) (b : Buffers) (line : List ℕ) (r q : Outcome) (l k : List ℕ)

@@ -11,6 +11,7 @@ use Rattle.control.specs.Decisions.{with_remainder, decision_of}
 use Rattle.sender.specs.declared.Sender.{Sender}
 use Rattle.control.specs.declared.Call.{Call}
 use Rattle.control.specs.declared.Decision.{Decision}
+use Rattle.control.specs.declared.Refused.{Refused}
 use Rattle.sending.specs.declared.Advanced.{Advanced}
 
 -- what a call leaves of the state, and its answer
@@ -36,15 +37,15 @@ unfoldable pub block_for : Sender → Call → ℕ → Buffers → List ℕ
 block_for s c word b = block_of s.mode (header_for s c word) c.mute b
 
 -- where a row refuses, the state comes back as given and nothing lent changes; else the state goes on with the remainder of the block sent
-abbrev pub state_by : Result Decision Refusal → Sender → (ℕ → List ℕ) → Sender
-state_by (Err r) s block = s
-state_by (Ok d) s block = with_remainder d.next (block_crc_of (block d.word))
+abbrev pub state_by : Result Decision Refused → (ℕ → List ℕ) → Sender
+state_by (Err r) block = r.next
+state_by (Ok d) block = with_remainder d.next (block_crc_of (block d.word))
 
-abbrev pub answer_by : Result Decision Refusal → Answer
-answer_by (Err r) = Err r
+abbrev pub answer_by : Result Decision Refused → Answer
+answer_by (Err r) = Err r.why
 answer_by (Ok d) = Ok d.went
 
-abbrev pub line_by : Result Decision Refusal → List ℕ → (ℕ → List ℕ) → List ℕ
+abbrev pub line_by : Result Decision Refused → List ℕ → (ℕ → List ℕ) → List ℕ
 line_by (Err r) line block = line
 line_by (Ok d) line block = block d.word
 
@@ -52,14 +53,14 @@ line_by (Ok d) line block = block d.word
 abbrev pub ruled : Sender → Call → Buffers → List ℕ → Ruling
 ruled s c b line = ruling_of s c (length line) (lengths b)
 
-abbrev pub decided : Sender → Call → Buffers → List ℕ → Result Decision Refusal
+abbrev pub decided : Sender → Call → Buffers → List ℕ → Result Decision Refused
 decided s c b line = decision_of s c (length line) (lengths b)
 
 -- the state and the answer of a call, and what the lent line holds after it
 unfoldable pub outcome_of : Sender → Call → Buffers → List ℕ → Outcome
 outcome_of s c b line =
     let d = decided s c b line in
-    record { state = state_by d s (λ (word : ℕ). block_for s c word b); answer = answer_by d }
+    record { state = state_by d (λ (word : ℕ). block_for s c word b); answer = answer_by d }
 
 unfoldable pub line_of : Sender → Call → Buffers → List ℕ → List ℕ
 line_of s c b line = line_by (decided s c b line) line (λ (word : ℕ). block_for s c word b)

@@ -27,7 +27,10 @@ pub fn step(
 ) -> Result<Advanced, Refusal>
     ensures { Told state call (each voice.now lsd.now) line.old (left_by state result) line.new }
 {
-    let decided = control::decide(state, call, line.len(), voice.len(), lsd.len())?;
+    let decided = match control::decide(state, call, line.len(), voice.len(), lsd.len()) {
+        Ok(decided) => decided,
+        Err(refused) => return Err(refused.why),
+    };
     let header = Header {
         a: call.a,
         e: call.e,
