@@ -157,12 +157,8 @@ impl Mode {
     pub fn is_in_range(self) -> bool
         ensures { result ≡ in_range self }
     {
-        let (Some(voice), Some(lsd)) = (
-            table::audio_listed(self.audio),
-            table::lsd_listed(self.lsd),
-        ) else {
-            return false;
-        };
-        (self.audio != 0) & !touch(voice, lsd)
+        let voice = table::audio_places(self.audio);
+        let lsd = table::lsd_places(self.lsd);
+        voice.listed & (self.audio != 0) & lsd.listed & !touch(voice, lsd)
     }
 }

@@ -11,7 +11,7 @@ use borrow.Author.Tests.{leb-true, leb-false, eqb-true, le-leb, ne_eqb}
 use lib.ListN.{length, replicate, length-append, length-replicate}
 use Rattle.bits.proofs.BoolLaws.{and_left, and_right, every_below, below}
 use Rattle.numbers.specs.Numbers.{within, octet}
-use Rattle.table.specs.Table.{octet_bits_from, lsd_table, lsd_listed, lsd_places}
+use Rattle.table.specs.Table.{octet_bits_from, not_listed, lsd_table, lsd_listed, lsd_places}
 use Rattle.modes.specs.Owners.{same_owner, holds, held_by, owner_of}
 use Rattle.modes.specs.declared.Mode.{Mode}
 use Rattle.numbers.specs.declared.OctetNumber.{OctetNumber}
@@ -141,7 +141,7 @@ in_place p = eqb p.from 8 || (eqb (p.first.0 % 8) 1 && eqb (p.last.0 % 8) 0)
 
 lsd-even : (m : Mode) → ((layout_of m).columns ≡ 0) ⊎ (in_eights (layout_of m) ≡ true)
 unfolding layout_of in_eights held_by lsd_places lsd_listed lsd_table
-lsd-even m = go (eqb (lsd_places m.lsd).from 8) refl (beside_all in_place lsd_table (octet_bits_from 8) m.lsd refl refl)
+lsd-even m = go (eqb (lsd_places m.lsd).from 8) refl (beside_all in_place lsd_table (not_listed (octet_bits_from 8)) m.lsd refl refl)
   where
     p : Places
     p = lsd_places m.lsd

@@ -5,7 +5,7 @@ use mathlib.Core.List.{List, [], ◌∷◌}
 use Prim.Native.Nat.{ℕ, ◌+◌, ◌≤◌, ◌<◌}
 use native.Mathlib.Omega.{arith}
 use lib.Dec.{eqb, leb, ltb}
-use borrow.Author.Tests.{leb-true, ltb-true, ltb-false, eqb-true, ne_eqb}
+use borrow.Author.Tests.{leb-true, ltb-true, ltb-false, eqb-true, ne_eqb, lt-ltb, le-ltb}
 use Rattle.std.proofs.Math.ListN.{get_or-map}
 use Rattle.std.specs.Prelude.{Option, map, get_or}
 use Rattle.std.specs.Option.{option_map}
@@ -13,7 +13,7 @@ use Rattle.numbers.specs.Numbers.{octet}
 use Rattle.bits.proofs.Table.{table, entry}
 use Rattle.bits.proofs.BoolLaws.{and_left, and_right}
 use Rattle.std.specs.Prelude.{Some, None, is_some, unwrap_or}
-use Rattle.table.specs.Table.{bits_and_sc, octet_bits_to, octet_bits_from, audio_table, lsd_table, beside, audio_listed, lsd_listed, audio_places, lsd_places, listed_audio, listed_lsd}
+use Rattle.table.specs.Table.{bits_and_sc, octet_bits_to, octet_bits_from, not_listed, audio_table, lsd_table, beside, audio_listed, lsd_listed, audio_places, lsd_places, listed_audio, listed_lsd}
 use Rattle.table.specs.declared.Places.{Places}
 
 -- ---- what all rows have, each looked-up row has
@@ -77,9 +77,12 @@ said : {A : Type 0} (n : ℕ) (turn : A → Option Places) (listed : ℕ → Opt
 said n turn listed entries d v h e =
     sym (get_or-map turn entries v d) ∙ ap (λ (l : List (Option Places)). get_or l v (turn d)) e ∙ entry n listed (turn d) v h
 
--- an entry of the table of audio: w, or none; and one of the table of data: a, f and l
-unfoldable pub audio_entry : ℕ → Option ℕ
-audio_entry v = option_map (λ (p : Places). p.to) (audio_listed v)
+-- an entry of the table of audio: w, or 8 where the value is not listed; and one of the table of data: a, f and l
+unfoldable pub audio_entry : ℕ → ℕ
+audio_entry v = cond (listed_audio v) (audio_places v).to 8
+
+abbrev audio_said : ℕ → Option Places
+audio_said w = cond (ltb w 8) (Some (octet_bits_to w)) None
 
 unfoldable pub lsd_entry : ℕ → List ℕ
 lsd_entry v = (lsd_places v).from ∷ (lsd_places v).first.0 ∷ (lsd_places v).last.0 ∷ []
@@ -87,13 +90,63 @@ lsd_entry v = (lsd_places v).from ∷ (lsd_places v).first.0 ∷ (lsd_places v).
 abbrev pub row_of : List ℕ → Option Places
 row_of row = Some (bits_and_sc (get_or row 0 0) 7 (octet (get_or row 1 0)) (octet (get_or row 2 0)))
 
-pub audio-said : (v : ℕ) → v < 32 → option_map octet_bits_to (get_or (table 32 audio_entry) v None) ≡ audio_listed v
-unfolding audio_entry audio_listed audio_table beside
-audio-said v h = said 32 (option_map octet_bits_to) audio_listed (table 32 audio_entry) None v h refl
+pub audio-said : (v : ℕ) → v < 32 → audio_said (get_or (table 32 audio_entry) v 8) ≡ audio_listed v
+unfolding audio_entry audio_places audio_listed audio_table beside
+audio-said v h = said 32 audio_said audio_listed (table 32 audio_entry) 8 v h refl
 
 pub lsd-said : (v : ℕ) → v < 15 → row_of (get_or (table 15 lsd_entry) v []) ≡ lsd_listed v
 unfolding lsd_entry lsd_places lsd_listed lsd_table beside
 lsd-said v h = said 15 row_of lsd_listed (table 15 lsd_entry) [] v h refl
+
+-- so what an entry is taken for is what the value holds: w octet bits, or none and a mark where it is not listed
+audio_entered : (v : ℕ) → v < 32 → audio_said (audio_entry v) ≡ audio_listed v
+audio_entered v h = ap audio_said (sym (entry 32 audio_entry 8 v h)) ∙ audio-said v h
+
+pub audio_given : (v w : ℕ) → v < 32 → w ≡ audio_entry v → w < 8 → Some (octet_bits_to w) ≡ audio_listed v
+audio_given v w h e l =
+    ap (λ (b : Bool). cond b (Some (octet_bits_to w)) None) (sym (lt-ltb w 8 l)) ∙ ap audio_said e ∙ audio_entered v h
+
+pub audio_missing : (v w : ℕ) → v < 32 → w ≡ audio_entry v → 8 ≤ w → None ≡ audio_listed v
+audio_missing v w h e l =
+    ap (λ (b : Bool). cond b (Some (octet_bits_to w)) None) (sym (le-ltb w 8 l)) ∙ ap audio_said e ∙ audio_entered v h
+
+abbrev audio_or_none : Option Places → Places
+audio_or_none p = unwrap_or p (not_listed (octet_bits_to 0))
+
+pub audio-listed : (v w : ℕ) → v < 32 → w ≡ audio_entry v → w < 8 → octet_bits_to w ≡ audio_places v
+unfolding audio_places
+audio-listed v w h e l = ap audio_or_none (audio_given v w h e l)
+
+pub audio_not_listed : (v w : ℕ) → v < 32 → w ≡ audio_entry v → 8 ≤ w → not_listed (octet_bits_to 0) ≡ audio_places v
+unfolding audio_places
+audio_not_listed v w h e l = ap audio_or_none (audio_missing v w h e l)
+
+pub lsd_row : (v : ℕ) → v < 15 → bits_and_sc (lsd_places v).from 7 (lsd_places v).first (lsd_places v).last ≡ lsd_places v
+unfolding lsd_entry lsd_places
+lsd_row v h =
+    ap (λ (p : Option Places). unwrap_or p (not_listed (octet_bits_from 8))) (ap row_of (sym (entry 15 lsd_entry [] v h)) ∙ lsd-said v h)
+
+-- ---- the mark says whether the table lists a value
+beside_marked : (rows : List (ℕ × Places)) (other : Places) (v : ℕ)
+    → all (λ (key : ℕ) (p : Places). p.listed) rows ≡ true → other.listed ≡ false → (unwrap_or (beside rows v) other).listed ≡ is_some (beside rows v)
+unfolding beside
+beside_marked [] other v t o = o
+beside_marked (row ∷ rows) other v t o =
+    let rest = all (λ (key : ℕ) (p : Places). p.listed) rows in
+    pick (eqb v row.0) (and_left row.1.listed rest t) (beside_marked rows other v (and_right row.1.listed rest t) o)
+  where
+    pick : (b : Bool) → row.1.listed ≡ true → (unwrap_or (beside rows v) other).listed ≡ is_some (beside rows v)
+        → (unwrap_or (cond b (Some row.1) (beside rows v)) other).listed ≡ is_some (cond b (Some row.1) (beside rows v))
+    pick true here there = here
+    pick false here there = there
+
+pub audio_marked : (v : ℕ) → (audio_places v).listed ≡ listed_audio v
+unfolding audio_places audio_listed audio_table
+audio_marked v = beside_marked audio_table (not_listed (octet_bits_to 0)) v refl refl
+
+pub lsd_marked : (v : ℕ) → (lsd_places v).listed ≡ listed_lsd v
+unfolding lsd_places lsd_listed lsd_table
+lsd_marked v = beside_marked lsd_table (not_listed (octet_bits_from 8)) v refl refl
 
 -- ---- both ranges lie in a frame's octets
 pub record Fit (p : Places) : Type 0 where
@@ -132,11 +185,11 @@ fit p t =
 
 pub audio-fit : (v : ℕ) → Fit (audio_places v)
 unfolding audio_places audio_listed audio_table
-audio-fit v = fit (audio_places v) (beside_all fits audio_table (octet_bits_to 0) v refl refl)
+audio-fit v = fit (audio_places v) (beside_all fits audio_table (not_listed (octet_bits_to 0)) v refl refl)
 
 pub lsd-fit : (v : ℕ) → Fit (lsd_places v)
 unfolding lsd_places lsd_listed lsd_table
-lsd-fit v = fit (lsd_places v) (beside_all fits lsd_table (octet_bits_from 8) v refl refl)
+lsd-fit v = fit (lsd_places v) (beside_all fits lsd_table (not_listed (octet_bits_from 8)) v refl refl)
 
 -- ---- audio is octet bits 1 to w and no SC octet, data is octet bits a to 7, whatever the value
 abbrev from_one : Places → Bool
@@ -146,7 +199,7 @@ pub audio_shape : (v : ℕ) → ((audio_places v).from ≡ 1) × ((audio_places 
 unfolding audio_places audio_listed audio_table
 audio_shape v =
     let p = audio_places v in
-    let t : from_one p ≡ true = beside_all from_one audio_table (octet_bits_to 0) v refl refl in
+    let t : from_one p ≡ true = beside_all from_one audio_table (not_listed (octet_bits_to 0)) v refl refl in
     let u = and_right (eqb p.from 1) (eqb p.first.0 17 && eqb p.last.0 16) t in (
       eqb-true p.from 1 (and_left (eqb p.from 1) (eqb p.first.0 17 && eqb p.last.0 16) t),
       eqb-true p.first.0 17 (and_left (eqb p.first.0 17) (eqb p.last.0 16) u),
@@ -160,7 +213,7 @@ pub lsd_shape : (v : ℕ) → ((lsd_places v).to ≡ 7) × (17 ≤ (lsd_places v
 unfolding lsd_places lsd_listed lsd_table
 lsd_shape v =
     let p = lsd_places v in
-    let t : to_seven p ≡ true = beside_all to_seven lsd_table (octet_bits_from 8) v refl refl in
+    let t : to_seven p ≡ true = beside_all to_seven lsd_table (not_listed (octet_bits_from 8)) v refl refl in
     let a = eqb p.to 7 in
     let b = leb 17 p.first.0 in
     (eqb-true p.to 7 (and_left a b t), leb-true 17 p.first.0 (and_right a b t))

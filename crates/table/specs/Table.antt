@@ -1,12 +1,12 @@
 -- Document 01, 'Codes and bit places': the bit places that each audio and data value holds.
-use Rattle.std.specs.Prelude.{Bool, cond, List, [], ◌∷◌, ℕ, eqb, Option, Some, None, is_some, unwrap_or}
+use Rattle.std.specs.Prelude.{Bool, true, false, cond, List, [], ◌∷◌, ℕ, eqb, Option, Some, None, is_some, unwrap_or}
 use Rattle.numbers.specs.Numbers.{octet}
 use Rattle.numbers.specs.declared.OctetNumber.{OctetNumber}
 use Rattle.table.specs.declared.Places.{Places}
 
 -- octet bits `from` to `to` of every octet, and the SC bit of octets `first` to `last`; a range that ends before it starts is empty (DECISIONS F4)
 abbrev pub bits_and_sc : ℕ → ℕ → OctetNumber → OctetNumber → Places
-bits_and_sc from to first last = record { from = from; to = to; first = first; last = last }
+bits_and_sc from to first last = record { listed = true; from = from; to = to; first = first; last = last }
 
 -- octet bits 1 to w; none where w is 0
 abbrev pub octet_bits_to : ℕ → Places
@@ -19,6 +19,9 @@ octet_bits_from a = bits_and_sc a 7 (octet 17) (octet 16)
 -- SC octets f to l
 abbrev pub sc_octets : OctetNumber → OctetNumber → Places
 sc_octets f l = bits_and_sc 8 7 f l
+
+abbrev pub not_listed : Places → Places
+not_listed p = record { listed = false; from = p.from; to = p.to; first = p.first; last = p.last }
 
 -- Audio (000), as octet bits 1 to w. [0], neutral, holds nothing
 unfoldable pub audio_table : List (ℕ × Places)
@@ -60,12 +63,12 @@ audio_listed v = beside audio_table v
 unfoldable pub lsd_listed : ℕ → Option Places
 lsd_listed v = beside lsd_table v
 
--- a value that its table does not list holds nothing
+-- a value that its table does not list holds nothing, and is marked
 unfoldable pub audio_places : ℕ → Places
-audio_places v = unwrap_or (audio_listed v) (octet_bits_to 0)
+audio_places v = unwrap_or (audio_listed v) (not_listed (octet_bits_to 0))
 
 unfoldable pub lsd_places : ℕ → Places
-lsd_places v = unwrap_or (lsd_listed v) (octet_bits_from 8)
+lsd_places v = unwrap_or (lsd_listed v) (not_listed (octet_bits_from 8))
 
 -- the values that the two tables list
 abbrev pub listed_audio : ℕ → Bool

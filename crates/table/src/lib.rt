@@ -3,13 +3,15 @@
 
 ghost use Rattle.std.specs.Prelude.{◌≡◌};
 ghost use Rattle.numbers.specs.Numbers.{octet};
-ghost use Rattle.table.specs.Table.{bits_and_sc, octet_bits_to, octet_bits_from, sc_octets, audio_listed, lsd_listed, audio_places, lsd_places};
+ghost use Rattle.table.specs.Table.{bits_and_sc, octet_bits_to, octet_bits_from, sc_octets, not_listed, audio_listed, lsd_listed, audio_places, lsd_places};
 
 use numbers::OctetNumber;
 
-// Octet bits `from` to `to` of every octet, and the SC bit of octets `first` to `last`. A range that ends before it starts is empty.
+// Octet bits `from` to `to` of every octet, and the SC bit of octets `first` to `last`. A range that ends before it starts is empty. Where a value
+// is not listed, its places are marked so.
 #[derive(Clone, Copy, Debug, PartialEq, Eq)]
 pub struct Places {
+    pub listed: bool,
     pub from: u8,
     pub to: u8,
     pub first: OctetNumber,
@@ -21,6 +23,7 @@ impl Places {
         ensures { result ≡ bits_and_sc from to (octet first) (octet last) }
     {
         Places {
+            listed: true,
             from,
             to,
             first: OctetNumber(first),
@@ -48,42 +51,21 @@ impl Places {
     {
         Places::bits_and_sc(8, 7, f, l)
     }
+
+    fn not_listed(self) -> Places
+        ensures { result ≡ not_listed self }
+    {
+        Places {
+            listed: false,
+            ..self
+        }
+    }
 }
 
-// From audio value to the octet bits it holds, 1 to w; None where the value is not listed.
-const AUDIO: [Option<u8>; 32] = [
-    Some(0),
-    None,
-    None,
-    None,
-    None,
-    None,
-    None,
-    None,
-    None,
-    None,
-    None,
-    Some(1),
-    None,
-    None,
-    None,
-    None,
-    None,
-    None,
-    Some(7),
-    Some(7),
-    Some(6),
-    Some(6),
-    None,
-    None,
-    Some(7),
-    Some(6),
-    None,
-    Some(4),
-    Some(3),
-    Some(2),
-    None,
-    Some(0),
+// From audio value to the octet bits it holds, 1 to w; 8 where the value is not listed. Octets, and no Options: a table of these is laid out
+// anew where it is read, in twice the room, and half of the calls that read it take one and a half to two times as long.
+const AUDIO: [u8; 32] = [
+    0, 8, 8, 8, 8, 8, 8, 8, 8, 8, 8, 1, 8, 8, 8, 8, 8, 8, 7, 7, 6, 6, 8, 8, 7, 6, 8, 4, 3, 2, 8, 0,
 ];
 
 // From data value to what it holds: octet bits a to 7, and SC octets f to l. From 8 to 7, and from 17 to 16, is none.
@@ -112,7 +94,10 @@ pub fn audio_listed(v: u8) -> Option<Places>
     if 32 <= v {
         return None;
     }
-    let w = AUDIO[v as usize]?;
+    let w = AUDIO[v as usize];
+    if 8 <= w {
+        return None;
+    }
     Some(Places::octet_bits_to(w))
 }
 
@@ -127,18 +112,18 @@ pub fn lsd_listed(v: u8) -> Option<Places>
     Some(Places::bits_and_sc(from, 7, first, last))
 }
 
-// The places of audio [v]: none where it is not listed.
+// The places of audio [v]; none, and marked, where it is not listed.
 #[tactic(auto, unfolding(crate::specs::Table::audio_places))]
 pub fn audio_places(v: u8) -> Places
     ensures { result ≡ audio_places v }
 {
-    audio_listed(v).unwrap_or(Places::octet_bits_to(0))
+    audio_listed(v).unwrap_or(Places::octet_bits_to(0).not_listed())
 }
 
-// The places of data [v]: none where it is not listed.
+// The places of data [v]; none, and marked, where it is not listed.
 #[tactic(auto, unfolding(crate::specs::Table::lsd_places))]
 pub fn lsd_places(v: u8) -> Places
     ensures { result ≡ lsd_places v }
 {
-    lsd_listed(v).unwrap_or(Places::octet_bits_from(8))
+    lsd_listed(v).unwrap_or(Places::octet_bits_from(8).not_listed())
 }

@@ -1,26 +1,25 @@
 -- `table::audio_listed` meets its contract: the source's table is that of the definition's entries, which antt computes.
-use mathlib.Core.Path.{sym, ap, ◌∙◌}
+use mathlib.Core.Path.{sym}
 use native.Mathlib.Omega.{arith}
-use Rattle.std.proofs.Common.{rules, ◌<◌}
-use Rattle.std.specs.Option.{option_map}
-use Rattle.table.specs.Table.{octet_bits_to, audio_table, beside, audio_listed}
-use Rattle.table.proofs.TableLaws.{audio_past, audio_entry, audio-said}
+use Rattle.std.proofs.Common.{◌<◌}
+use Rattle.bits.proofs.Table.{entry}
+use Rattle.table.specs.Table.{audio_table, beside, audio_listed, audio_places}
+use Rattle.table.proofs.TableLaws.{audio_past, audio_entry, audio_given, audio_missing}
 use Rattle.table.proofs.audio_listed.Goals as goal
 
 pub returns-then-v-ge32 : goal.returns-then-v-ge32
 returns-then-v-ge32 c = sym (audio_past c.args.v c.if-v-ge32.true)
 
-pub returns-in_err-w : goal.returns-in_err-w
-unfolding audio_entry audio_listed audio_table beside
-returns-in_err-w c =
+pub returns-then-w-ge8 : goal.returns-then-w-ge8
+unfolding audio_entry audio_places audio_listed audio_table beside
+returns-then-w-ge8 c =
     let v = c.args.v in
     let inside : v < 32 = omega (arith, c.if-v-ge32.false) in
-    let none = sym (ap (option_map octet_bits_to) c.in_err-w.was) ∙ audio-said v inside in
-    search (rules, none)
+    audio_missing v _ inside (entry 32 audio_entry 0 v inside) c.if-w-ge8.true
 
 pub returns : goal.returns
-unfolding audio_entry audio_listed audio_table beside
+unfolding audio_entry audio_places audio_listed audio_table beside
 returns c =
     let v = c.args.v in
     let inside : v < 32 = omega (arith, c.if-v-ge32.false) in
-    rw c.octet_bits_to.ensures (sym (ap (option_map octet_bits_to) c.in_ok-w.was) ∙ audio-said v inside)
+    rw c.octet_bits_to.ensures (audio_given v _ inside (entry 32 audio_entry 0 v inside) (omega (arith, c.if-w-ge8.false)))
