@@ -10,7 +10,8 @@ pub fn eight_within(octets: &[u8], at: usize) -> usize
     requires { at + 8 ≤ length octets.now }
     ensures { result ≡ eight_at octets.now at }
 {
-    usize::from_be_bytes(*octets[at..].first_chunk().unwrap())
+    let eight = octets[at..].first_chunk::<8>().unwrap();
+    usize::from_be_bytes(*eight)
 }
 
 // Eight octets of which some may be past the end: those that are there, and zeros after them.

@@ -7,6 +7,6 @@ use Rattle.bits.proofs.eight_within.Goals as goal
 pub returns : goal.returns
 returns c =
     let a = c.args in
-    let cut = rw c.unwrap.ensures at c.first_chunk.ensures.cases in
+    let cut = rw c.unwrap-eight.ensures at c.first_chunk.ensures.cases in
     c.from_be_bytes.ensures
-    ∙ eight_cut a.octets.now c.unwrap.result.now a.at (length a.octets.now - a.at) (λ i. omega (arith, c.type_inv.octets i)) (omega arith) cut.same
+    ∙ eight_cut a.octets.now c.unwrap-eight.result.now a.at (length a.octets.now - a.at) (λ i. omega (arith, c.type_inv.octets i)) (omega arith) cut.same
