@@ -9,8 +9,7 @@ use modes::{AUDIO_OFF, Mode, Owner};
 use reader::Reader;
 use refusals::Refusal;
 use sender::Sender;
-use std::alloc::Global;
-use std::{fmt, io};
+use std::fmt;
 use track::Report;
 use words::Reading;
 
@@ -28,11 +27,13 @@ const RELEASED: [u8; 2] = [0x80, 0x80];
 // shows.
 const MICROPHONE: u8 = 0;
 
-// How far the lesson is: the state that the next call finds, and the blocks that are recorded.
-#[derive(Drop)]
+// How far the lesson is: the state that the next call finds, and the blocks that are recorded. They
+// lie in room for a block of each call, and not in a Vec, so that no memory can run out.
+#[derive(Clone, Copy)]
 struct Lesson {
     state: Sender,
-    recording: Vec<u8>,
+    blocks: usize,
+    room: [u8; 2400],
 }
 
 // The far end, and what it got so far: bits of the microphone, and in which block "audio off" first
@@ -94,7 +95,7 @@ fn tell(
     call: Call,
     answer: Result<Went, Refusal>,
     line: &[u8],
-) -> io::Result<()> {
+) {
     let code = call.code;
     let mute = if call.mute { "set" } else { "clear" };
     let became = match answer {
@@ -103,31 +104,49 @@ fn tell(
         Ok(Went::Held) => "held",
         Err(why) => {
             let number = u8::from(why);
-            return println!(rt;
+            let _ = println!(rt;
                 "    -  {mute:<7}{code:02X}       refused {number}        --           --"
             );
+            return;
         }
     };
     let word = Said(bas::read_word(service::bas_word(line)));
     let places = voice_places(found.mode, line);
-    println!(rt; "{block:>5}  {mute:<7}{code:02X}       {became:<17}{word}           {places}")
+    let _ = println!(rt;
+        "{block:>5}  {mute:<7}{code:02X}       {became:<17}{word}           {places}"
+    );
 }
 
 impl Lesson {
-    fn begun(alloc: Global) -> Lesson {
+    fn begun() -> Lesson {
         Lesson {
             state: Sender::fresh(),
-            recording: Vec::new(alloc),
+            blocks: 0,
+            room: [0; 2400],
         }
     }
 
-    fn blocks(&self) -> usize {
-        self.recording.len() / buffers::LINE
+    fn recording(&self) -> &[u8] {
+        let end = self.blocks.wrapping_mul(buffers::LINE);
+        self.room.get(..end).unwrap_or(&self.room)
+    }
+
+    // A block goes behind those that are recorded.
+    fn record(&mut self, line: &[u8; buffers::LINE]) {
+        let end = self.blocks.wrapping_mul(buffers::LINE);
+        if let Some(place) = self
+            .room
+            .get_mut(end..)
+            .and_then(|rest| rest.first_chunk_mut())
+        {
+            *place = *line;
+            self.blocks = self.blocks.wrapping_add(1);
+        }
     }
 
     // One call, made with the same voice and data each time, and told; a refused one writes no
     // block.
-    fn step(&mut self, rt: &impl Print, mute: bool, code: u8) -> io::Result<()> {
+    fn step(&mut self, rt: &impl Print, mute: bool, code: u8) {
         let mut line = [0u8; buffers::LINE];
         let voice = [MICROPHONE; buffers::VOICE];
         let lsd = [51u8; buffers::LSD];
@@ -140,29 +159,27 @@ impl Lesson {
             t: false,
         };
         let answer = sending::send(&mut self.state, call, &voice, &lsd, &mut line);
-        tell(rt, self.blocks(), found, call, answer, &line)?;
+        tell(rt, self.blocks, found, call, answer, &line);
         if answer.is_ok() {
-            self.recording.extend_from_slice(&line)?;
+            self.record(&line);
         }
-        Ok(())
     }
 
     // Calls one after the other, mute set or clear in all of them. How many blocks there are then.
-    fn steps(&mut self, rt: &impl Print, mute: bool, codes: &[u8]) -> io::Result<usize> {
+    fn steps(&mut self, rt: &impl Print, mute: bool, codes: &[u8]) -> usize {
         for code in codes {
-            self.step(rt, mute, *code)?;
+            self.step(rt, mute, *code);
         }
-        Ok(self.blocks())
+        self.blocks
     }
 }
 
 // What the far end makes of the recording.
-fn tell_listing(rt: &impl Print, recording: &[u8]) -> io::Result<()> {
+fn tell_listing(rt: &impl Print, recording: &[u8]) {
     let mut listing = [0u8; 1024];
     let end = scribe::list(recording, &mut listing);
-    match listing.get(..end) {
-        Some(text) => rt.write_all(text),
-        None => Ok(()),
+    if let Some(text) = listing.get(..end) {
+        let _ = rt.write_all(text);
     }
 }
 
@@ -203,37 +220,34 @@ fn listened(recording: &[u8], reader: Reader, from: usize, to: usize) -> Heard {
 
 // What was seen of the blocks with mute set. The panel's mute is true where no bit of the
 // microphone went, and the far end was told.
-fn tell_seen(rt: &impl Print, blocks: usize, heard: Heard) -> io::Result<()> {
+fn tell_seen(rt: &impl Print, blocks: usize, heard: Heard) {
     let bits = heard.bits;
-    print!(rt; "after the press: {blocks} blocks with mute set, ")?;
-    print!(rt; "{bits} bits of the microphone on the line, audio off ")?;
-    match heard.off {
-        Some(block) => print!(rt; "read as a command in block {block}")?,
-        None => print!(rt; "not read as a command")?,
-    }
-    if heard.off.is_some() && bits == 0 {
+    let _ = print!(rt; "after the press: {blocks} blocks with mute set, ");
+    let _ = print!(rt; "{bits} bits of the microphone on the line, audio off ");
+    let _ = match heard.off {
+        Some(block) => print!(rt; "read as a command in block {block}"),
+        None => print!(rt; "not read as a command"),
+    };
+    let _ = if heard.off.is_some() && bits == 0 {
         println!(rt; ": the panel's mute is true")
     } else {
         println!(rt; ": THE PANEL'S MUTE IS NOT TRUE")
-    }
+    };
 }
 
-fn lesson_told(rt: &(impl Print + AllocGlobal)) -> io::Result<()> {
-    let mut lesson = Lesson::begun(rt.alloc());
-    println!(rt; "block  mute   offered  became of it     on the line  voice places")?;
-    let from = lesson.steps(rt, false, &BEFORE)?;
-    let to = lesson.steps(rt, true, &MUTED)?;
-    lesson.steps(rt, false, &RELEASED)?;
-    println!(rt; "\nthe lesson, listed as the far end reads it:")?;
-    tell_listing(rt, &lesson.recording)?;
-    println!(rt)?;
-    // the far end reads the blocks before the press first
-    let before = listened(&lesson.recording, Reader::fresh(), 0, from);
-    let heard = listened(&lesson.recording, before.reader, from, to);
-    tell_seen(rt, to.wrapping_sub(from), heard)
-}
-
-// What cannot be written is not told: all that is written is compared with the file `stdout`.
+// What cannot be written is not told, and what follows is tried all the same: all that is written
+// is compared with the file `stdout`.
 fn main(rt: HostRuntime) {
-    let _ = lesson_told(&rt);
+    let mut lesson = Lesson::begun();
+    let _ = println!(rt; "block  mute   offered  became of it     on the line  voice places");
+    let from = lesson.steps(&rt, false, &BEFORE);
+    let to = lesson.steps(&rt, true, &MUTED);
+    lesson.steps(&rt, false, &RELEASED);
+    let _ = println!(rt; "\nthe lesson, listed as the far end reads it:");
+    tell_listing(&rt, lesson.recording());
+    let _ = println!(rt);
+    // the far end reads the blocks before the press first
+    let before = listened(lesson.recording(), Reader::fresh(), 0, from);
+    let heard = listened(lesson.recording(), before.reader, from, to);
+    tell_seen(&rt, to.wrapping_sub(from), heard);
 }

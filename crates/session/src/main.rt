@@ -8,7 +8,7 @@ use control::{Call, Went};
 use numbers::BlockNumber;
 use refusals::Refusal;
 use sender::Sender;
-use std::{fmt, io};
+use std::fmt;
 
 // What is said with an offered code, and what is wrong with the buffers and the state that it is
 // offered with.
@@ -105,11 +105,22 @@ impl fmt::Display for Told {
     }
 }
 
-fn print_line(rt: &impl Print, line: &[u8; buffers::LINE]) -> io::Result<()> {
-    for octet in line {
-        print!(rt; "{octet:02X}")?;
+fn digit(d: u8) -> u8 {
+    let low = d % 16;
+    if low < 10 {
+        b'0' + low
+    } else {
+        b'A' - 10 + low
     }
-    println!(rt)
+}
+
+// A block in hex. Its digits are made by hand: with a format for each octet, a session takes more
+// than four times the instructions.
+fn print_line(rt: &impl Print, line: &[u8; buffers::LINE]) {
+    for octet in line {
+        let _ = rt.write_all(&[digit(octet / 16), digit(*octet)]);
+    }
+    let _ = println!(rt);
 }
 
 // Fills a stream. No octet is numbered past 255.
@@ -131,18 +142,18 @@ fn call_of(code: u8, ways: &[Way]) -> Call {
     }
 }
 
-fn print_call(rt: &impl Print, k: usize, call: Call) -> io::Result<()> {
+fn print_call(rt: &impl Print, k: usize, call: Call) {
     let mute = if call.mute { 'm' } else { '-' };
     let a = if call.a { 'a' } else { '-' };
     let e = if call.e { 'e' } else { '-' };
     let t = if call.t { 't' } else { '-' };
-    print!(rt; "{k} {:02X} {mute}{a}{e}{t} ", call.code)
+    let _ = print!(rt; "{k} {:02X} {mute}{a}{e}{t} ", call.code);
 }
 
-fn print_outcome(rt: &impl Print, told: Told, s: Sender) -> io::Result<()> {
-    print!(rt; "{told}: chosen {} in force {}", s.chosen, s.mode.audio)?;
-    print!(rt; " data {} block {}", s.mode.lsd, s.block.0)?;
-    println!(rt; " due {} remainder {}", s.due, s.remainder)
+fn print_outcome(rt: &impl Print, told: Told, s: Sender) {
+    let _ = print!(rt; "{told}: chosen {} in force {}", s.chosen, s.mode.audio);
+    let _ = print!(rt; " data {} block {}", s.mode.lsd, s.block.0);
+    let _ = println!(rt; " due {} remainder {}", s.due, s.remainder);
 }
 
 // The call with its buffers lent whole, or without their last octet where its ways say so.
@@ -167,7 +178,7 @@ fn lent(
 }
 
 // Call k, printed with the state that it leaves, and with its block where it wrote one.
-fn make(rt: &impl Print, state: &mut Sender, k: usize, code: u8, ways: &[Way]) -> io::Result<()> {
+fn make(rt: &impl Print, state: &mut Sender, k: usize, code: u8, ways: &[Way]) {
     let mut line = [0u8; buffers::LINE];
     let mut voice = [0u8; buffers::VOICE];
     let mut lsd = [0u8; buffers::LSD];
@@ -179,17 +190,16 @@ fn make(rt: &impl Print, state: &mut Sender, k: usize, code: u8, ways: &[Way]) -
     fill(&mut lsd, |i| ((i % 256 * 13 + number * 17 + 5) % 241) as u8);
     let call = call_of(code, ways);
     let answer = lent(state, call, ways, &voice, &lsd, &mut line);
-    print_call(rt, k, call)?;
-    print_outcome(rt, Told(answer), *state)?;
+    print_call(rt, k, call);
+    print_outcome(rt, Told(answer), *state);
     if answer.is_ok() {
-        print_line(rt, &line)?;
+        print_line(rt, &line);
     }
-    Ok(())
 }
 
 // Every call of the script. A forged state, with a block numbered 9 that no session reaches, is for
 // one call alone: the session goes on with its own.
-fn session(rt: &impl Print) -> io::Result<()> {
+fn session(rt: &impl Print) {
     let mut state = Sender::fresh();
     for (k, (code, ways)) in (1..).zip(SCRIPT) {
         if ways.contains(&Forged) {
@@ -197,15 +207,15 @@ fn session(rt: &impl Print) -> io::Result<()> {
                 block: BlockNumber(9),
                 ..state
             };
-            make(rt, &mut forged, k, code, ways)?;
+            make(rt, &mut forged, k, code, ways);
         } else {
-            make(rt, &mut state, k, code, ways)?;
+            make(rt, &mut state, k, code, ways);
         }
     }
-    Ok(())
 }
 
-// What cannot be written is not told: all that is written is compared with the file `stdout`.
+// What cannot be written is not told, and what follows is tried all the same: all that is written
+// is compared with the file `stdout`.
 fn main(rt: HostRuntime) {
-    let _ = session(&rt);
+    session(&rt);
 }

@@ -10,6 +10,7 @@ use sender::Sender;
 use std::fmt;
 use std::io::Input;
 use std::rt::Env;
+use text::Page;
 
 const NOTATION: &str =
     "A call is HH, HH:FLAGS, HH*N or HH:FLAGS*N: the offered code in hex, letters out of m (mute), \
@@ -54,15 +55,30 @@ struct Told {
     audio: u8,
 }
 
-impl fmt::Display for Told {
-    fn fmt<W: fmt::Write>(&self, f: &mut fmt::Formatter<W>) -> fmt::Result {
-        let block = self.block;
-        let audio = self.audio;
+// A call's line is written by the crates that are proved for it (DECISIONS F18).
+impl Told {
+    fn put(self, page: &mut Page) {
         match self.answer {
-            Ok(Went::Sent) => write!(f, "sent in block {block}"),
-            Ok(Went::Held) => write!(f, "held, {audio:02X} went in block {block}"),
-            Err(why) => write!(f, "refused {}", u8::from(why)),
+            Ok(Went::Sent) => {
+                page.put_all(b" sent");
+                self.put_in_block(page);
+            }
+            Ok(Went::Held) => {
+                page.put_all(b" held, ");
+                digits::put_hex(page, self.audio);
+                page.put_all(b" went");
+                self.put_in_block(page);
+            }
+            Err(why) => {
+                page.put_all(b" refused ");
+                digits::put_decimal(page, usize::from(u8::from(why)));
+            }
         }
+    }
+
+    fn put_in_block(self, page: &mut Page) {
+        page.put_all(b" in block ");
+        digits::put_decimal(page, usize::from(self.block));
     }
 }
 
@@ -148,48 +164,73 @@ fn voice_under(rt: &impl Input, mode: Mode, mute: bool) -> Result<[u8; buffers::
 impl Session {
     // The line of a call that was made and found this block number. It is written at once, so that
     // it stays whole beside those of another program. The next call has the next number.
-    fn tell(&mut self, rt: &impl Eprint, code: u8, block: u8, answer: Result<Went, Refusal>) {
-        let number = self.number;
+    fn tell(&mut self, err: &impl Print, code: u8, block: u8, answer: Result<Went, Refusal>) {
         let told = Told {
             answer,
             block,
             audio: self.state.mode.audio,
         };
-        let _ = eprintln!(rt; "call {number}: {code:02X} {told}");
-        self.number = number.wrapping_add(1);
+        let mut line = [0u8; 64];
+        let mut page = Page::new(&mut line);
+        page.put_all(b"call ");
+        digits::put_decimal(&mut page, self.number);
+        page.put_all(b": ");
+        digits::put_hex(&mut page, code);
+        told.put(&mut page);
+        page.put(b'\n');
+        let end = page.end();
+        if let Some(text) = line.get(..end) {
+            let _ = err.write_all(text);
+        }
+        self.number = self.number.wrapping_add(1);
     }
 
     // A call that is accepted: its voice is taken, and its block written. Where its voice cannot be
     // read, nothing is written.
-    fn frame(&mut self, rt: &(impl Input + Print + Eprint), call: Call) -> Result<(), Stop> {
+    fn frame(
+        &mut self,
+        rt: &(impl Input + Print),
+        err: &impl Print,
+        call: Call,
+    ) -> Result<(), Stop> {
         let mut line = [0u8; buffers::LINE];
         let lsd = [0u8; buffers::LSD];
         let block = self.state.block.0;
         let voice = voice_under(rt, self.state.mode, call.mute)?;
         let answer = sending::send(&mut self.state, call, &voice, &lsd, &mut line);
         rt.write_all(&line).map_err(|_| Stop::Unwritten)?;
-        self.tell(rt, call.code, block, answer);
+        self.tell(err, call.code, block, answer);
         Ok(())
     }
 
     // One call. It is tried with silence first, since a refused one takes no voice.
-    fn make(&mut self, rt: &(impl Input + Print + Eprint), call: Call) -> Result<(), Stop> {
+    fn make(
+        &mut self,
+        rt: &(impl Input + Print),
+        err: &impl Print,
+        call: Call,
+    ) -> Result<(), Stop> {
         let mut line = [0u8; buffers::LINE];
         let silence = [0u8; buffers::VOICE];
         let lsd = [0u8; buffers::LSD];
         let mut trial = self.state;
         let answer = sending::send(&mut trial, call, &silence, &lsd, &mut line);
         if answer.is_ok() {
-            return self.frame(rt, call);
+            return self.frame(rt, err, call);
         }
-        self.tell(rt, call.code, trial.block.0, answer);
+        self.tell(err, call.code, trial.block.0, answer);
         Ok(())
     }
 
     // A call, repeated as its word says.
-    fn repeat(&mut self, rt: &(impl Input + Print + Eprint), word: Word) -> Result<(), Stop> {
+    fn repeat(
+        &mut self,
+        rt: &(impl Input + Print),
+        err: &impl Print,
+        word: Word,
+    ) -> Result<(), Stop> {
         for _ in 0..word.times {
-            self.make(rt, word.call)?;
+            self.make(rt, err, word.call)?;
         }
         Ok(())
     }
@@ -197,7 +238,7 @@ impl Session {
 
 // Makes every call of the arguments. The first blocks may have no voice: a standard input that
 // cannot be read is told before one of them is written.
-fn all_sent(rt: &(impl Env + Input + Print + Eprint), count: usize) -> Result<(), Stop> {
+fn all_sent(rt: &(impl Env + Input + Print), err: &impl Print, count: usize) -> Result<(), Stop> {
     if !intake::is_open(&mut rt.reader()) {
         return Err(Stop::Unread);
     }
@@ -206,7 +247,7 @@ fn all_sent(rt: &(impl Env + Input + Print + Eprint), count: usize) -> Result<()
         number: 1,
     };
     for word in (1..count).filter_map(|i| word_at(rt, i)) {
-        session.repeat(rt, word)?;
+        session.repeat(rt, err, word)?;
     }
     Ok(())
 }
@@ -220,7 +261,7 @@ fn main(rt: HostRuntime) {
     // every argument has to be a call; the first that is none is told
     if let Some(i) = (1..count).find(|i| word_at(&rt, *i).is_none()) {
         tell_wrong(&rt, &rt.stderr(), i);
-    } else if let Err(stop) = all_sent(&rt, count) {
+    } else if let Err(stop) = all_sent(&rt, &rt.stderr(), count) {
         let _ = eprintln!(rt; "speak: {stop}");
     }
 }
