@@ -6,6 +6,7 @@
 ghost use Rattle.std.specs.Prelude.{◌≡◌, List, ℕ};
 ghost use Rattle.std.specs.Borrow.{MutBor};
 ghost use Rattle.lending.specs.Filling.{Fills, FillsTwo};
+ghost use Rattle.lending.specs.GoingOn.{GoesOn};
 
 // What a step gives back: the state, and then the answer.
 #[derive(Drop)]
@@ -50,6 +51,25 @@ pub fn steps<T: Copy + Drop, N, F: FnOnce(T) -> Stepped<T, N>>(state: &mut T, by
     let stepped = by_value(*state);
     *state = stepped.state;
     stepped.answer
+}
+
+// A function advances a lent state, fills a buffer and answers; or it refuses, and the state stays as it was.
+pub fn goes_on_filling<
+    T: Copy + Drop,
+    N: Drop,
+    E: Drop,
+    F: FnOnce(T, &mut [u8]) -> Result<Stepped<T, N>, E>,
+>(state: &mut T, filled: &mut [u8], by_value: F) -> Result<N, E>
+    requires { F.IsAlwaysCallable by_value }
+    ensures { Fills filled.old filled.new (λ before after. GoesOn state.old state.new result (λ stepped. F.post by_value state.old before stepped after)) }
+{
+    match by_value(*state, filled) {
+        Ok(stepped) => {
+            *state = stepped.state;
+            Ok(stepped.answer)
+        }
+        Err(why) => Err(why),
+    }
 }
 
 // A function advances a lent state, fills a buffer and answers.

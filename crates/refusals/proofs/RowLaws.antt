@@ -1,4 +1,4 @@
--- The number of the first row that is given, which is small; and where none is given.
+-- Rows judged in turn give the first that is given, and its number, which is small; and where none is given.
 use mathlib.Core.Path.{◌≡◌, refl}
 use mathlib.Core.Bool.{Bool, true, false, cond}
 use mathlib.Core.List.{List, [], ◌∷◌}
@@ -7,11 +7,35 @@ use native.Mathlib.Omega.{arith}
 use lib.Dec.{eqb}
 use borrow.Author.Tests.{ne_eqb}
 use Rattle.refusals.specs.Numbers.{number_of}
-use Rattle.refusals.specs.Rows.{first_given, ruling_number}
+use Rattle.refusals.specs.Rows.{Ruling, first_given, ruling_number}
 use Rattle.refusals.specs.declared.Refusal.{Refusal}
 use Rattle.refusals.specs.declared.Refusal.TheVariants.{BadState, LineLength, VoiceLength, LsdLength, NotCarried, ForbiddenItem, AudioWhileMuted, Overlap, BadRecording, NoPlace, NotAPreset}
 use Rattle.refusals.specs.declared.Row.{Row}
 use Rattle.std.specs.Prelude.{Ok, Err}
+
+-- rows judged one after the other: a row counts where none before it is given
+unfoldable pub judged : Ruling → Row → Ruling
+judged (Err first) r = Err first
+judged (Ok u) r = cond r.given (Err r.refusal) (Ok u)
+
+abbrev pub in_turn : Ruling → List Row → Ruling
+in_turn ruling [] = ruling
+in_turn ruling (r ∷ rs) = in_turn (judged ruling r) rs
+
+pub refused_stays : (first : Refusal) (rows : List Row) → in_turn (Err first) rows ≡ Err first
+unfolding judged
+refused_stays first [] = refl
+refused_stays first (r ∷ rs) = refused_stays first rs
+
+pub in_turn_is : (rows : List Row) → in_turn (Ok tt) rows ≡ first_given rows
+unfolding judged
+in_turn_is [] = refl
+in_turn_is (r ∷ rs) = go r.given (in_turn_is rs)
+  where
+    go : (given : Bool) → in_turn (Ok tt) rs ≡ first_given rs
+        → in_turn (cond given (Err r.refusal) (Ok tt)) rs ≡ cond given (Err r.refusal) (first_given rs)
+    go true e = refused_stays r.refusal rs
+    go false e = e
 
 -- the number of the first row that is given, 0 where none is
 abbrev pub first_number : List Row → ℕ

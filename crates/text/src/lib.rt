@@ -7,7 +7,7 @@ ghost use Rattle.std.specs.Prelude.{◌≡◌, [], ◌∷◌, ◌+◌, ◌<◌, 
 ghost use Rattle.text.specs.Pages.{Wrote};
 
 // A place of a buffer of `size` octets as it is answered: one past the end stands for each that is farther.
-fn place_in(size: usize, at: usize) -> usize
+pub fn place_in(size: usize, at: usize) -> usize
     requires { size < 2 ^ 63 }
     ensures { result ≡ min at (size + 1) }
 {
