@@ -21,8 +21,8 @@
  *   - What a call may write (a state or a buffer that is not const) overlaps nothing else that the call is given, and nobody else reads
  *     or writes it during the call. What is const may overlap what is const, and may be read by others meanwhile.
  *   - A state is filled in before it is lent to another call than delampuk_start_.., _load_.. or delampuk_read_preset. Its octets may
- *     be any; one out of range is refused with 1. A refused call may store the state's own octets again, so a state that is not const lies
- *     in memory that can be written.
+ *     be any; one out of range is refused with 1. A refused call may store the state's own octets again, so a state that is not const
+ *     lies in memory that can be written.
  *
  * A refusal changes nothing: the state is as it was, and no lent octet changes. Where several numbers hold, the smallest is given.
  *
